@@ -1,0 +1,5 @@
+pub mod Nud
+pub mod Parts
+pub mod Name
+pub mod NameLaws
+pub mod Address
