@@ -1,17 +1,17 @@
 -- Link addresses as six hexadecimal bytes joined by `:`.
-use Rattle.std.proofs.Common.{◌≡◌, ℕ, ◌+◌, ◌*◌, ◌/◌, ◌%◌, ◌<◌, true, false, eqb, ltb, List, [], ◌∷◌, length, get_or, map, Option, Some, None, IfSome, refl, sym, ap, ◌∙◌, arith, inl, inr}
+use Rattle.std.proofs.Common.{◌≡◌, ℕ, ◌+◌, ◌*◌, ◌/◌, ◌%◌, ◌<◌, true, false, eqb, List, [], ◌∷◌, length, get_or, map, Option, Some, None, IfSome, refl, ap, arith, inl, inr}
 use Rattle.std.specs.Option.{option_and_then, option_map, is_some}
 use Rattle.std.specs.Char.{digit_value, digit_char}
 use Rattle.std.specs.Fmt.{digit_glyph}
 use Rattle.std.specs.List.{AllByRecursion}
 use Rattle.std.proofs.lemmas.Bool.{lt-ltb}
-use Rattle.std.proofs.lemmas.Bool.Decides.{eqb_tells, nat_tests}
+use Rattle.std.proofs.lemmas.Bool.Decides.{eqb_tells}
 use Rattle.std.proofs.lemmas.List.Elements.{All-cons, All-nil, All-from_get_or, recursion_from_All}
 use Rattle.std.proofs.lemmas.Str.{digit_value-digit_char}
 use Rattle.nb_base.specs.declared.mac.Mac.{Mac}
-use Rattle.nb_base.specs.Parts.{parts_spelled, IsJoined, hex_digit_of, hex_byte_of, hex_pair}
+use Rattle.nb_base.specs.Parts.{parts_spelled, hex_digit_of, hex_byte_of, hex_pair}
 use Rattle.nb_base.specs.Address.{IsMacText, mac_of, mac_text}
-use Rattle.nb_base.proofs.Joined.{Lacks, Shuns, found_parts, joined_parts}
+use Rattle.nb_base.proofs.Joined.{Shuns, found_parts, joined_parts}
 
 hex_digit-colon : (a : ℕ) → is_some (hex_digit_of a) ≡ true → eqb a 58 ≡ false
 hex_digit-colon a e =

@@ -85,12 +85,14 @@ counted n (Some xs) values e =
 -- a text of which n parts spell values is those parts joined
 pub found_parts : (f : List ℕ → Option ℕ) (n separator : ℕ) (text values : List ℕ) → parts_spelled f n separator text ≡ Some values → IsJoined f separator text values × (length values ≡ n)
 found_parts f n separator text values e =
-    let h = counted n (all_spelled f (slice_split (λ b. eqb b separator) text)) values e in
-    (record {
-      parts = slice_split (λ b. eqb b separator) text;
-      joined = sym (join_with_byte-slice_split separator text);
-      each = each-from_spelled f _ values h.0;
-    }, h.1)
+    let h = counted n (all_spelled f (slice_split (λ b. eqb b separator) text)) values e in (
+      record {
+        parts = slice_split (λ b. eqb b separator) text;
+        joined = sym (join_with_byte-slice_split separator text);
+        each = each-from_spelled f _ values h.0;
+      },
+      h.1,
+    )
 
 -- and a text that is such parts joined spells their values
 pub joined_parts : (f : List ℕ → Option ℕ) (n separator : ℕ) → 0 < n → Shuns f separator → (text values : List ℕ) → IsJoined f separator text values → length values ≡ n → parts_spelled f n separator text ≡ Some values

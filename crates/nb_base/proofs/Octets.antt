@@ -1,20 +1,20 @@
 -- IPv4 addresses as four octets joined by `.`.
-use Rattle.std.proofs.Common.{◌≡◌, ℕ, zero, suc, ◌+◌, ◌*◌, ◌/◌, ◌%◌, ◌<◌, ◌≤◌, ◌^◌, Bool, ◌&&◌, ◌||◌, not, true, false, cond, eqb, ltb, leb, List, [], ◌∷◌, length, get_or, map, Option, Some, None, IfSome, refl, sym, ap, ◌∙◌, arith, inl, inr, rules}
+use Rattle.std.proofs.Common.{◌≡◌, ℕ, zero, suc, ◌+◌, ◌<◌, ◌≤◌, ◌^◌, Bool, ◌&&◌, ◌||◌, not, true, false, cond, eqb, ltb, leb, List, [], ◌∷◌, length, get_or, map, Option, Some, None, refl, sym, ap, ◌∙◌, arith, inl, inr}
 use Rattle.std.specs.Prelude.{decimal}
-use Rattle.std.specs.Option.{option_and_then, option_map, is_some}
+use Rattle.std.specs.Option.{option_and_then}
 use Rattle.std.specs.Char.{digit_value, is_ascii_digit}
 use Rattle.std.specs.Int.{w32, to_be_bytes, from_be_bytes}
-use Rattle.std.specs.List.{All, AllByRecursion, list_all}
-use Rattle.std.specs.Str.Parse.{AllDigits, digits_value}
-use Rattle.std.proofs.lemmas.Bool.{lt-ltb, ltb-true, le-leb, eq-eqb}
+use Rattle.std.specs.List.{AllByRecursion, list_all}
+use Rattle.std.specs.Str.Parse.{AllDigits}
+use Rattle.std.proofs.lemmas.Bool.{lt-ltb, ltb-true, le-leb}
 use Rattle.std.proofs.lemmas.Bool.Decides.{eqb_tells, nat_tests}
 use Rattle.std.proofs.lemmas.Fmt.{decimal_is_IsNumeral, length-decimal-le, first_decimal, decimal_digit}
-use Rattle.std.proofs.lemmas.List.Elements.{All-cons, All-nil, All-from_get_or, recursion_from_All}
+use Rattle.std.proofs.lemmas.List.Elements.{All-cons, All-nil}
 use Rattle.std.proofs.lemmas.Nat.{be_bytes_4, from_be_bytes-to_be_bytes_4}
 use Rattle.std.proofs.lemmas.Str.Parse.{digit_from_value}
 use Rattle.nb_base.specs.declared.key.Key.{Key}
 use Rattle.nb_base.specs.declared.key.Key.TheVariants.{V4, V6}
-use Rattle.nb_base.specs.Parts.{parts_spelled, IsJoined, number_of, is_plain, octet_of}
+use Rattle.nb_base.specs.Parts.{parts_spelled, number_of, is_plain, octet_of}
 use Rattle.nb_base.specs.Address.{IsIp4Text, IsKeyText, ip4_of, ip4_text}
 use Rattle.nb_base.proofs.Joined.{Lacks, Shuns, found_parts, joined_parts}
 

@@ -3,3 +3,4 @@ pub mod Parts
 pub mod Name
 pub mod NameLaws
 pub mod Address
+pub mod Params

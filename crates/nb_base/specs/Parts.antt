@@ -1,5 +1,5 @@
 -- A text of parts with a separator between them, and the number that a part spells.
-use Rattle.std.specs.Prelude.{◌≡◌, map, ℕ, ◌+◌, ◌*◌, false, ◌/◌, ◌%◌, Bool, ◌&&◌, List, [], ◌∷◌, ◌++◌, length, Option, Some, None, nat_le, nat_lt, ◌==◌, if◌then◌else◌, slice_index, ◌||◌, not}
+use Rattle.std.specs.Prelude.{◌≡◌, map, ℕ, ◌+◌, ◌*◌, false, ◌/◌, ◌%◌, Bool, ◌&&◌, List, [], ◌∷◌, length, Option, Some, None, nat_le, nat_lt, ◌==◌, if◌then◌else◌, slice_index, ◌||◌, not}
 use Rattle.std.specs.Option.{option_and_then, option_map}
 use Rattle.std.specs.List.{slice_split, list_all, join_with_byte}
 use Rattle.std.specs.Char.{is_ascii_digit}
@@ -13,6 +13,7 @@ abbrev pub all_spelled : (List ℕ → Option ℕ) → List (List ℕ) → Optio
 all_spelled f [] = Some []
 all_spelled f (p ∷ ps) = option_and_then (λ x. option_map (λ xs. x ∷ xs) (all_spelled f ps)) (f p)
 
+-- the list, where it has n values
 abbrev pub exactly : ℕ → List ℕ → Option (List ℕ)
 exactly n xs = if length xs == n then Some xs else None
 

@@ -15,6 +15,8 @@ mod params;
 mod parts;
 mod plan;
 mod record;
+#[cfg(test)]
+mod tests;
 mod time;
 
 pub use host::Host;

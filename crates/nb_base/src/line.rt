@@ -29,8 +29,10 @@ pub enum Reply {
     Counted(u32),
 }
 
+/// A bucket's lines, in their order.
 pub type Journal = Items<Line>;
 
+/// A journal for each bucket.
 pub type Journals = Items<Journal>;
 
 /// One number for each bucket.

@@ -1,4 +1,5 @@
-/// The parameters of a table, as in arp(7). Times are in milliseconds.
+//! The parameters of a table.
+/// The parameters of a table, named as in arp(7). Times are in milliseconds.
 #[derive(Clone, Copy, Debug, PartialEq, Eq)]
 pub struct Params {
     /// No sweep below this number of entries.
@@ -32,7 +33,7 @@ pub struct Params {
 }
 
 impl Params {
-    /// The defaults of Linux, where it has the parameter.
+    /// The defaults of arp(7).
     pub const DEFAULT: Params = Params {
         gc_thresh1: 128,
         gc_thresh2: 512,
@@ -49,4 +50,16 @@ impl Params {
         proxy_qlen: 64,
         unres_qlen: 3,
     };
+}
+
+/// The defaults of arp(7), which are in the ranges that every call with parameters asks for.
+impl Default for Params {
+    ghost use Rattle.std.specs.Prelude.{◌≡◌};
+    ghost use Rattle.nb_base.specs.Params.{InRange, default_params};
+
+    ghost is_default = { λ params. (params ≡ default_params) × InRange params };
+
+    fn default() -> Params {
+        Params::DEFAULT
+    }
 }

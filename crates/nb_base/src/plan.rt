@@ -1,6 +1,7 @@
 //! What a run is to do.
 use crate::{Host, Items, Key, Moment, Op, Params};
 
+/// A list of bytes.
 pub type Bytes = Items<u8>;
 
 /// How a run goes: by one thread, or by one for each participant.

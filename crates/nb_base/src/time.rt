@@ -1,6 +1,5 @@
 //! Moments and the numbers of operations.
-ghost use Rattle.std.specs.Prelude.{◌≡◌, ◌+◌, ◌<◌, ◌^◌, Some};
-ghost use Rattle.std.specs.Prelude.{decimal};
+ghost use Rattle.std.specs.Prelude.{◌≡◌, ◌+◌, ◌<◌, ◌^◌, Some, decimal};
 
 use std::fmt;
 use std::marker::Model;
@@ -39,6 +38,7 @@ impl Moment {
     }
 }
 
+/// The number of milliseconds in decimal.
 impl fmt::Display for Moment {
     ghost output = { λ m. Some (decimal m) };
 
@@ -51,3 +51,13 @@ impl fmt::Display for Moment {
 /// An operation's number: `32 * n + p` for item `n`, from 1 on, of participant `p`, 0 to 16.
 #[derive(Clone, Copy, Debug, PartialEq, Eq)]
 pub struct OpId(pub u64);
+
+/// The number in decimal.
+impl fmt::Display for OpId {
+    ghost output = { λ id. Some (decimal id.0) };
+
+    fn fmt<W: fmt::Write>(&self, f: &mut fmt::Formatter<W>) -> fmt::Result {
+        let number = self.0;
+        write!(f, "{number}")
+    }
+}

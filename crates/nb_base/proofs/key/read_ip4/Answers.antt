@@ -1,6 +1,4 @@
-use Rattle.std.proofs.Common.{◌≡◌, ap, Some, sym, ◌∙◌}
-use Rattle.std.specs.Option.{option_map}
-use Rattle.std.specs.Int.{w32, from_be_bytes}
+use Rattle.std.proofs.Common.{◌∙◌}
 use Rattle.nb_base.proofs.Octets.{ip4_found, ip4_of-only}
 use Rattle.nb_base.proofs.key.read_ip4.Goals as goal
 

@@ -1,4 +1,4 @@
-use Rattle.std.proofs.Common.{◌≡◌, Option, Some, None, sym, ◌∙◌}
+use Rattle.std.proofs.Common.{sym, ◌∙◌}
 use Rattle.nb_base.specs.Parts.{hex_byte_of}
 use Rattle.nb_base.proofs.Joined.{found_parts}
 use Rattle.nb_base.proofs.HexBytes.{mac_of-only}

@@ -1,0 +1,171 @@
+use crate::{
+    Host, Items, Key, Mac, Moment, Name, Nud, OpId, Params, cut, hex_digit, is_neighbour,
+    read_hex_digit, read_ip4, read_key, read_mac, read_number, write_key, write_mac,
+};
+use std::test::Fail;
+
+#[test]
+fn link_addresses_in_and_out(rt: HostRuntime) -> Result<(), Fail> {
+    let cases = [
+        ("0:11:22:33:44:5", "00:11:22:33:44:05"),
+        ("AA:bB:0C:d:E:ff", "aa:bb:0c:0d:0e:ff"),
+        ("02:00:00:00:00:02", "02:00:00:00:00:02"),
+    ];
+    for (text, written) in cases {
+        let mac = read_mac(text.as_bytes()).ok_or("a link address")?;
+        assert_eq!(rt; write_mac(&mac).as_slice(), written.as_bytes(), "at {text}");
+        assert_eq!(rt; mac.to_string(rt.alloc())?.as_str(), written);
+        assert_eq!(rt; read_mac(written.as_bytes()), Some(mac), "at {text}");
+    }
+    assert_eq!(rt;
+        read_mac(b"0:11:22:33:44:5"),
+        Some(Mac([0, 0x11, 0x22, 0x33, 0x44, 5]))
+    );
+    let none = [
+        "",
+        "::",
+        "0:11:22:33:44",
+        "0:11:22:33:44:",
+        "0:11:22:33:44:5:",
+        "0:11:22:33:44:5:6",
+        "0:11:22:33:44:005",
+        "0:11:22:33:44:g",
+        "0-11-22-33-44-5",
+    ];
+    for text in none {
+        assert_eq!(rt; read_mac(text.as_bytes()), None, "at {text}");
+    }
+    Ok(())
+}
+
+#[test]
+fn keys_in_and_out(rt: HostRuntime) -> Result<(), Fail> {
+    let read = [
+        ("10.0.0.1", 0x0a00_0001),
+        ("0.0.0.0", 0),
+        ("255.255.255.255", 0xffff_ffff),
+        ("192.0.2.99", 0xc000_0263),
+    ];
+    for (text, address) in read {
+        assert_eq!(rt; read_ip4(text.as_bytes()), Some(address), "at {text}");
+        assert_eq!(rt;
+            read_key(text.as_bytes()),
+            Some(Key::V4(address)),
+            "at {text}"
+        );
+    }
+    for text in [
+        "",
+        "1.2.3",
+        "1.2.3.4.",
+        "1.2.3.4.5",
+        "10.0.0.01",
+        "256.0.0.1",
+        "1..2.3",
+        "0x1.2.3.4",
+        " 1.2.3.4",
+    ] {
+        assert_eq!(rt; read_key(text.as_bytes()), None, "at {text}");
+    }
+    let written = [
+        (Key::V4(0x0a00_0001), "10.0.0.1"),
+        (Key::V6(0), "::"),
+        (
+            Key::V6(0xfe80_0000_0000_0000_0000_0000_0000_0001),
+            "fe80::1",
+        ),
+        (
+            Key::V6(0x2001_0db8_0000_0000_0001_0000_0000_0001),
+            "2001:db8::1:0:0:1",
+        ),
+        (Key::V6(0xffff_0a00_0001), "::ffff:a00:1"),
+    ];
+    for (key, text) in written {
+        assert_eq!(rt;
+            write_key(rt.alloc(), &key)?.as_slice(),
+            text.as_bytes(),
+            "at {text}"
+        );
+    }
+    Ok(())
+}
+
+#[test]
+fn neighbours_of_a_host(rt: HostRuntime) -> Result<(), Fail> {
+    let host = Host {
+        dev: Name::read(b"eth0").ok_or("a name")?,
+        mac: Mac([2, 0, 0, 0, 0, 2]),
+        ip4: Some(0x0a00_0002),
+        ip6: None,
+    };
+    let cases = [
+        (Key::V4(0x0a00_0001), true),
+        (Key::V4(0x0a00_0002), false),
+        (Key::V4(0), false),
+        (Key::V4(0xdfff_ffff), true),
+        (Key::V4(0xe000_0000), false),
+        (Key::V6(1), false),
+    ];
+    for (key, wanted) in cases {
+        assert_eq!(rt; is_neighbour(&host, &key), wanted, "at {key}");
+    }
+    Ok(())
+}
+
+#[test]
+fn names(rt: HostRuntime) -> Result<(), Fail> {
+    for text in ["eth0", "a", "br-lan.1_Z", "fifteen.bytes.1"] {
+        let name = Name::read(text.as_bytes()).ok_or("a name")?;
+        assert_eq!(rt; name.as_slice(), text.as_bytes());
+        assert_eq!(rt; name.to_string(rt.alloc())?.as_str(), text);
+    }
+    for text in ["", "sixteen.bytes.16", "eth 0", "eth0:1", "é"] {
+        assert_eq!(rt; Name::read(text.as_bytes()), None, "at {text}");
+    }
+    Ok(())
+}
+
+#[test]
+fn states(rt: HostRuntime) {
+    let cases = [
+        (Nud::None, 0, false, false, false),
+        (Nud::Incomplete, 0x01, false, false, true),
+        (Nud::Reachable, 0x02, true, true, true),
+        (Nud::Stale, 0x04, false, true, false),
+        (Nud::Delay, 0x08, false, true, true),
+        (Nud::Probe, 0x10, false, true, true),
+        (Nud::Failed, 0x20, false, false, false),
+        (Nud::Noarp, 0x40, true, true, false),
+        (Nud::Permanent, 0x80, true, true, false),
+    ];
+    for (state, bits, connected, valid, timer) in cases {
+        assert_eq!(rt; state.bits(), bits);
+        assert_eq!(rt; state.is_connected(), connected, "at {bits}");
+        assert_eq!(rt; state.is_valid(), valid, "at {bits}");
+        assert_eq!(rt; state.in_timer(), timer, "at {bits}");
+    }
+}
+
+#[test]
+fn small_parts(rt: HostRuntime) -> Result<(), Fail> {
+    assert_eq!(rt; read_number(b"0000000042"), Some(42));
+    assert_eq!(rt; read_number(b"9999999999"), Some(9_999_999_999));
+    assert_eq!(rt; read_number(b"00000000042"), None);
+    assert_eq!(rt; read_number(b""), None);
+    assert_eq!(rt; read_number(b"4a"), None);
+    assert_eq!(rt; read_hex_digit(b'F'), Some(15));
+    assert_eq!(rt; hex_digit(15), b'f');
+    let (front, behind) = cut(b"a:b:c", b':');
+    assert_eq!(rt; front, b"a".as_slice());
+    assert_eq!(rt; behind, Some(b"b:c".as_slice()));
+    assert_eq!(rt; Moment(5).after(10).to_string(rt.alloc())?.as_str(), "15");
+    assert_eq!(rt; OpId(33).to_string(rt.alloc())?.as_str(), "33");
+    assert_eq!(rt; Params::default().proxy_delay, 800);
+    let mut items = Items::new(rt.alloc());
+    items.push(7)?;
+    assert_eq!(rt; items.get(0).copied(), Some(7));
+    assert_eq!(rt; items.get(1).copied(), None);
+    assert_eq!(rt; items.len(), 1);
+    assert!(rt; !items.is_empty());
+    Ok(())
+}
