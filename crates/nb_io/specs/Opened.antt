@@ -1,0 +1,6 @@
+-- Which file numbers are opened, of the two that there are. (This project's own.)
+use Rattle.std.specs.Prelude.{ℕ, ◌==◌, Bool, false, Option, is_some, if◌then◌else◌}
+
+-- number 0 where the first file is there, number 1 where the second is, and no other
+abbrev pub is_opened : {F : Type 0} → Option F → Option F → ℕ → Bool
+is_opened first second file = if file == 0 then is_some first else (if file == 1 then is_some second else false)

@@ -1,0 +1,93 @@
+//! Inputs over the files of the system.
+ghost use Rattle.std.specs.Prelude.{◌≡◌, ◌≤◌, ℕ, length, IsTrue, None, is_some, IfOk};
+ghost use Rattle.nb_io.specs.Opened.{is_opened};
+
+use crate::{Failed, Inputs};
+use std::fs;
+use std::io::Read;
+use std::rt::Files;
+
+/// Inputs over the files of the system. It tells no bytes and has one count, which is that of every
+/// name. At most two files are opened in its life; a third opening raises the count and fails.
+#[derive(Drop)]
+pub struct FileInputs<R: Files + Drop> {
+    rt: R,
+    first: Option<R::File>,
+    second: Option<R::File>,
+    faults: u64,
+}
+
+impl<R: Files + Drop> FileInputs<R> {
+    /// Inputs without opened files and without faults.
+    pub fn new(rt: R) -> FileInputs<R>
+        ensures first { result.first ≡ None }
+        ensures second { result.second ≡ None }
+        ensures faults { result.faults ≡ 0 }
+    {
+        FileInputs {
+            rt,
+            first: None,
+            second: None,
+            faults: 0,
+        }
+    }
+
+    /// How many calls have failed; the count stays at 2^64 - 1.
+    pub fn faults(&self) -> u64
+        ensures { result ≡ self.now.faults }
+    {
+        self.faults
+    }
+}
+
+impl<R: Files + Drop> Inputs for FileInputs<R> {
+    ghost held = { λ _ _. None };
+
+    ghost faults = { λ s _. s.faults };
+
+    ghost name_of = { λ s file _. IsTrue (is_opened s.first s.second file) };
+
+    ghost left = { λ _ _. None };
+
+    fn open(&mut self, name: &str) -> Result<u32, Failed> {
+        if self.first.is_none() {
+            if let Ok(file) = fs::open(&self.rt, name) {
+                self.first = Some(file);
+                return Ok(0);
+            }
+        } else if self.second.is_none() {
+            if let Ok(file) = fs::open(&self.rt, name) {
+                self.second = Some(file);
+                return Ok(1);
+            }
+        }
+        self.faults = self.faults.saturating_add(1);
+        Err(Failed)
+    }
+
+    fn read(&mut self, file: u32, into: &mut [u8]) -> Result<usize, Failed> {
+        let read = if file == 0 {
+            read_opened(&mut self.first, into)
+        } else {
+            read_opened(&mut self.second, into)
+        };
+        if read.is_err() {
+            self.faults = self.faults.saturating_add(1);
+        }
+        read
+    }
+}
+
+// One read. A count beyond the piece's end is a fault.
+fn read_opened<F: Read>(opened: &mut Option<F>, into: &mut [u8]) -> Result<usize, Failed>
+    ensures count { IfOk result (λ count. count ≤ length into.new) }
+    ensures opened { is_some opened.new ≡ is_some opened.old }
+{
+    let Some(file) = opened else {
+        return Err(Failed);
+    };
+    match file.read(into) {
+        Ok(count) if count <= into.len() => Ok(count),
+        _ => Err(Failed),
+    }
+}
