@@ -1,5 +1,5 @@
 -- Counts of faults and of calls, and what an answer says of them. (This project's own.)
-use Rattle.std.specs.Prelude.{◌≡◌, ℕ, ◌+◌, ◌-◌, ◌^◌, ◌==◌, ◌≤◌, Bool, List, min, Result, OnErr}
+use Rattle.std.specs.Prelude.{ℕ, ◌+◌, ◌-◌, ◌^◌, ◌==◌, ◌≤◌, Bool, List, min, Result, OnErr}
 use Rattle.std.specs.List.{list_any}
 
 -- a count that rises by one; it stays at its last value, 2^64 - 1

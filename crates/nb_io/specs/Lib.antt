@@ -1,5 +1,5 @@
 pub mod Faults
 pub mod Kept
-pub mod Memory
 pub mod MemoryFiles
+pub mod MemorySinks
 pub mod Opened

@@ -1,5 +1,6 @@
 //! Inputs over the files of the system.
-ghost use Rattle.std.specs.Prelude.{◌≡◌, ◌≤◌, ℕ, length, IsTrue, None, is_some, IfOk};
+ghost use Rattle.std.specs.Prelude.{◌≡◌, ◌≤◌, ℕ, length, IsTrue, None, is_some, IsSome, IsErr, IfOk, OnOk, OnErr, false};
+ghost use Rattle.nb_io.specs.Faults.{risen, HasCause};
 ghost use Rattle.nb_io.specs.Opened.{is_opened};
 
 use crate::{Failed, Inputs};
@@ -49,7 +50,18 @@ impl<R: Files + Drop> Inputs for FileInputs<R> {
 
     ghost left = { λ _ _. None };
 
-    fn open(&mut self, name: &str) -> Result<u32, Failed> {
+    /// It fails where two files are opened, and where the system doesn't open the file; a want of
+    /// memory in there is such a fault.
+    fn open(&mut self, name: &str) -> Result<u32, Failed>
+        ensures opened { IfOk result (λ file. IsTrue (is_opened self.new.first self.new.second file)) }
+        ensures names { (file : ℕ) → IsTrue (is_opened self.old.first self.old.second file) → IsTrue (is_opened self.new.first self.new.second file) }
+        ensures next { IfOk result (λ file. is_opened self.old.first self.old.second file ≡ false) }
+        ensures later { self.old.faults ≤ self.new.faults }
+        ensures cause { HasCause self.old.faults self.new.faults result }
+        ensures third { IsSome self.old.first → IsSome self.old.second → IsErr result }
+        ensures kept { OnOk result (self.new.faults ≡ self.old.faults) }
+        ensures raised { OnErr result (self.new.faults ≡ risen self.old.faults) }
+    {
         if self.first.is_none() {
             if let Ok(file) = fs::open(&self.rt, name) {
                 self.first = Some(file);

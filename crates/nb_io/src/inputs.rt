@@ -78,11 +78,9 @@ pub fn read_all<I: Inputs>(
     ensures within { IfOk result (λ bytes. length bytes ≤ limit) }
     ensures whole { IfOk result (λ bytes. IfSome (I.held inputs.old name.now) (λ all. bytes ≡ all)) }
     ensures too_long { result ≡ Err ReadFail.TooLong → IfSome (I.held inputs.old name.now) (λ all. limit < length all) }
-    ensures stopped {
-        result ≡ Err ReadFail.TooLong
+    ensures stopped { result ≡ Err ReadFail.TooLong
         → (file : ℕ) × (I.name_of inputs.new file name.now
-        × IfSome (I.held inputs.old name.now) (λ all. I.left inputs.new file ≡ Some (drop (limit + 1) all)))
-    }
+        × IfSome (I.held inputs.old name.now) (λ all. I.left inputs.new file ≡ Some (drop (limit + 1) all))) }
     ensures fault { result ≡ Err ReadFail.ReadFault → Rose (I.faults inputs.old name.now) (I.faults inputs.new name.now) }
     ensures held { (other : List ℕ) → I.held inputs.new other ≡ I.held inputs.old other }
     ensures places { (file : ℕ) → (I.name_of inputs.new file name.now → ⊥) → I.left inputs.new file ≡ I.left inputs.old file }

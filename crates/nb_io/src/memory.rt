@@ -13,7 +13,9 @@ use std::alloc::{AllocError, Global};
 /// A name and what it holds.
 #[derive(Debug, Drop)]
 pub struct MemoryFile {
+    /// The name, as the bytes of its text.
     pub name: Bytes,
+    /// What the name holds.
     pub bytes: Bytes,
 }
 
@@ -41,7 +43,7 @@ pub struct MemoryInputs {
 }
 
 impl MemoryInputs {
-    ghost use Rattle.nb_io.specs.MemoryFiles.{IsNew};
+    ghost use Rattle.nb_io.specs.MemoryFiles.{faults_of, IsNew};
 
     /// Inputs that hold these files, with nothing opened and without faults. `fails` has the numbers
     /// of the calls that are to fail, counted from 1 over calls of `open` and `read` together.
@@ -65,6 +67,16 @@ impl MemoryInputs {
             calls: FailingCalls::new(alloc, fails)?,
             missing: 0,
         })
+    }
+
+    /// How many calls for that name have failed; the count stays at 2^64 - 1.
+    pub fn faults(&self, name: &str) -> u64
+        ensures { result ≡ faults_of self.now name.now }
+    {
+        match find(&self.files, name.as_bytes()) {
+            Some(place) => self.readers[place].faults,
+            None => self.missing,
+        }
     }
 }
 

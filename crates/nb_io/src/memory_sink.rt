@@ -22,16 +22,11 @@ pub struct MemorySink {
 }
 
 impl MemorySink {
-    ghost use Rattle.nb_io.specs.Memory.{sink_bytes, sink_room, sink_most, sink_fails, sink_calls, sink_faults};
+    ghost use Rattle.nb_io.specs.MemorySinks.{sink_bytes, sink_room, sink_most, sink_fails, sink_calls, sink_faults};
 
     /// A sink that has taken nothing and takes `room` bytes in all, at most `most` of them in one
     /// call. `fails` has the numbers of the writes that are to fail, counted from 1.
-    pub fn new(
-        alloc: Global,
-        room: u32,
-        most: u32,
-        fails: &[u32],
-    ) -> Result<MemorySink, AllocError>
+    pub fn new(alloc: Global, room: u32, most: u32, fails: &[u32]) -> Result<MemorySink, AllocError>
         requires { 0 < most }
         ensures bytes { IfOk result (λ sink. sink_bytes sink ≡ []) }
         ensures room { IfOk result (λ sink. sink_room sink ≡ room) }
@@ -66,7 +61,7 @@ impl MemorySink {
 }
 
 impl Sink for MemorySink {
-    ghost use Rattle.nb_io.specs.Memory.{sink_bytes, sink_faults, write_fails, write_count, CountsWrite};
+    ghost use Rattle.nb_io.specs.MemorySinks.{sink_bytes, sink_faults, write_fails, write_count, CountsWrite};
 
     ghost taken = { λ s. Some s.bytes.items };
 

@@ -1,4 +1,4 @@
-use Rattle.std.proofs.Common.{◌≡◌, ℕ, ◌+◌, ◌≤◌, List, ◌++◌, length, take, arith, length-append}
+use Rattle.std.proofs.Common.{◌≡◌, ℕ, ◌+◌, ◌≤◌, ◌++◌, length, take, arith, length-append}
 use Rattle.std.proofs.lemmas.List.{length-take, length-take-le}
 use Rattle.nb_io.proofs.Known.{Consumes-then, Consumes-left}
 use Rattle.nb_io.proofs.inputs.read_all.Goals as goal

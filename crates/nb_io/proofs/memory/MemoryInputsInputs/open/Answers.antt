@@ -1,4 +1,4 @@
-use Rattle.std.proofs.Common.{refl, arith}
+use Rattle.std.proofs.Common.{refl}
 use Rattle.nb_io.proofs.Readers.{opened_name}
 use Rattle.nb_io.proofs.memory.MemoryInputsInputs.open.Goals as goal
 

@@ -1,4 +1,4 @@
-use Rattle.std.proofs.Common.{◌≡◌, ◌+◌, ◌<◌, length, refl, arith, sym, ap, rules}
+use Rattle.std.proofs.Common.{◌≡◌, ◌<◌, length, refl, arith, sym, ap}
 use Rattle.std.proofs.lemmas.Option.{slice_get_read}
 use Rattle.std.proofs.lemmas.List.{get_or_read}
 use Rattle.nb_io.specs.declared.memory.Reader.{Reader}

@@ -1,5 +1,5 @@
 -- What the sink in memory holds, and how it answers. (This project's own.)
-use Rattle.std.specs.Prelude.{◌≡◌, ℕ, ◌-◌, ◌==◌, Bool, List, length, min, not, ◌||◌}
+use Rattle.std.specs.Prelude.{◌≡◌, ℕ, ◌-◌, ◌==◌, Bool, List, length, min, ◌||◌}
 use Rattle.nb_io.specs.Faults.{fails_at, next_call}
 use Rattle.nb_io.specs.declared.memory_sink.MemorySink.{MemorySink}
 
