@@ -1,0 +1,54 @@
+-- The keys that operations name.
+use Rattle.std.specs.Prelude.{ℕ, ◌+◌, Bool, true, false, ◌==◌, if◌then◌else◌, List, [], ◌∷◌, Option, Some, None}
+use Rattle.nb_base.specs.declared.key.Key.{Key}
+use Rattle.nb_base.specs.declared.key.Key.TheVariants.{V4, V6}
+use Rattle.nb_base.specs.declared.op.Op.{Op}
+use Rattle.nb_base.specs.declared.op.Op.TheVariants as op
+
+-- two keys are of one family and have one address
+unfoldable pub is_key : Key → Key → Bool
+is_key (V4 a) (V4 b) = a == b
+is_key (V6 a) (V6 b) = a == b
+is_key _ _ = false
+
+-- the key that an operation names
+abbrev pub key_of : Op → Option Key
+key_of (op.Send key) = Some key
+key_of (op.Arp key mac make solicited) = Some key
+key_of (op.Ns key mac) = Some key
+key_of (op.Na key mac router solicited overrides) = Some key
+key_of (op.Add key mac nud) = Some key
+key_of (op.Change key mac nud) = Some key
+key_of (op.Replace key mac nud) = Some key
+key_of (op.Del key) = Some key
+key_of (op.Confirm key) = Some key
+key_of op.Show = None
+key_of op.Flush = None
+key_of (op.Timer key) = Some key
+key_of op.Sweep = None
+key_of (op.Collect key) = Some key
+
+-- the key that an operation makes known: one that is sent to, or for which it would make an entry
+abbrev pub made_known : Op → Option Key
+made_known (op.Send key) = Some key
+made_known (op.Arp key mac true solicited) = Some key
+made_known (op.Ns key mac) = Some key
+made_known (op.Add key (Some mac) nud) = Some key
+made_known (op.Replace key (Some mac) nud) = Some key
+made_known _ = None
+
+-- an operation of a participant, which has an id; timers, sweeps and collects are the bucket's own
+abbrev pub is_own : Op → Bool
+is_own (op.Timer key) = false
+is_own op.Sweep = false
+is_own (op.Collect key) = false
+is_own _ = true
+
+abbrev pub is_timer : Op → Bool
+is_timer (op.Timer key) = true
+is_timer _ = false
+
+-- the key's place among the keys, or their number where it isn't there
+abbrev pub place_among : List Key → Key → ℕ
+place_among [] key = 0
+place_among (other ∷ others) key = if is_key other key then 0 else place_among others key + 1

@@ -1,0 +1,5 @@
+pub mod Keys
+pub mod Effect
+pub mod Fold
+pub mod Reply
+pub mod Lawful

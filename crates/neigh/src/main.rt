@@ -1,0 +1,36 @@
+//! The program: real files, standard output and standard error for the command.
+#![tactic(auto)]
+
+use nb_io::{FileInputs, OpenGate, OutSink};
+use neigh_replay::run;
+use std::process::ExitCode;
+use std::rt::Env;
+use std::{env, io};
+
+// The words behind the program's name. Words that aren't UTF-8 are none of the command's.
+fn command_words<R: Env + AllocGlobal>(rt: &R) -> io::Result<Vec<String>> {
+    let mut words = Vec::new(rt.alloc());
+    for word in env::args(rt)?.skip(1) {
+        words.push(word)?;
+    }
+    Ok(words)
+}
+
+fn main(rt: HostRuntime) -> ExitCode {
+    let words = match command_words(&rt) {
+        Ok(words) => words,
+        Err(_) => Vec::new(rt.alloc()),
+    };
+    let mut inputs = FileInputs::new(&rt);
+    let mut out = OutSink::new(rt.stdout());
+    let mut err = OutSink::new(rt.stderr());
+    ExitCode::from(run(
+        &rt,
+        rt.alloc(),
+        &words,
+        &mut inputs,
+        &mut out,
+        &mut err,
+        &OpenGate,
+    ))
+}

@@ -1,0 +1,41 @@
+//! The status of a run and its line on standard error.
+ghost use Rattle.std.specs.Prelude.{◌≡◌, ℕ, ◌++◌, ◌∷◌, [], List, IfOk, string_bytes};
+ghost use Rattle.neigh_replay.specs.Status.{Says};
+ghost use Rattle.neigh_replay.specs.Status as status;
+
+use crate::replay::Failure;
+use nb_io::{Sink, WriteFault, write_all};
+use std::alloc::{AllocError, Global};
+
+/// The line of a failure.
+#[tactic(auto, unfolding(crate::specs::Status::line_of))]
+pub fn line_of(alloc: Global, failure: Failure, script: &str) -> Result<String, AllocError>
+    ensures { IfOk result (λ line. string_bytes line ≡ status.line_of failure script.now) }
+{
+    match failure {
+        Failure::Memory => String::from_str(alloc, "neigh: no memory\n"),
+        Failure::ReadFault => named_line(alloc, "neigh: cannot read ", script),
+        Failure::WriteFault => String::from_str(alloc, "neigh: cannot write\n"),
+        Failure::TooLong => named_line(alloc, "neigh: too long: ", script),
+        Failure::NotBuilt => String::from_str(alloc, "neigh: not built\n"),
+    }
+}
+
+fn named_line(alloc: Global, front: &str, script: &str) -> Result<String, AllocError>
+    ensures { IfOk result (λ line. string_bytes line ≡ front.now ++ (script.now ++ 10 ∷ [])) }
+{
+    let mut line = String::from_str(alloc, front)?;
+    line.push_str(script)?;
+    line.push('\n')?;
+    Ok(line)
+}
+
+/// Writes a line, or a part of it where the sink fails.
+pub fn say<E: Sink>(err: &mut E, line: &[u8])
+    ensures { Says (E.taken err.old) (E.taken err.new) (E.faults err.old) (E.faults err.new) line.now }
+{
+    match write_all(err, line) {
+        Ok(()) => {}
+        Err(WriteFault) => {}
+    }
+}

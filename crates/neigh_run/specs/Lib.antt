@@ -1,0 +1,7 @@
+pub mod Text
+pub mod Spelling
+pub mod Frames
+pub mod Merged
+pub mod Inline
+pub mod Entries
+pub mod Report

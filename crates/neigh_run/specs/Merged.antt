@@ -1,0 +1,70 @@
+-- The operations of a plan, in the order in which an inline run enters them.
+use Rattle.std.specs.Prelude.{ℕ, ◌+◌, ◌*◌, ◌%◌, Bool, true, nat_le, ◌==◌, if◌then◌else◌, List, [], ◌∷◌, ◌++◌, fold, filter, Option, Some, None}
+use Rattle.std.specs.Option.{option_map_or, option_to_list}
+use Rattle.nb_base.specs.declared.key.Key.{Key}
+use Rattle.nb_base.specs.declared.key.Key.TheVariants.{V4, V6}
+use Rattle.nb_base.specs.declared.time.OpId.{OpId}
+use Rattle.nb_base.specs.declared.op.Op.{Op}
+use Rattle.nb_base.specs.declared.op.Op.TheVariants as op
+use Rattle.nb_base.specs.declared.plan.Plan.{Plan}
+use Rattle.nb_base.specs.declared.plan.SendItem.{SendItem}
+use Rattle.nb_base.specs.declared.plan.ControlItem.{ControlItem}
+use Rattle.nb_base.specs.declared.plan.ControlItem.TheVariants as control
+use Rattle.nb_journal.specs.Keys.{key_of}
+
+-- an operation with its id and its item's moment
+pub record Entered : Type 0 where
+  pub at : ℕ
+  pub id : OpId
+  pub op : Op
+
+-- the id of participant p's n-th item, counted from 1
+abbrev pub id_for : ℕ → ℕ → OpId
+id_for p n = record { 0 = 32 * n + p }
+
+-- participant 0's operation is its line's (no frame brings one yet, and a proxy line has none)
+abbrev pub control_op : ℕ → ControlItem → Option Entered
+control_op n (control.Neigh at o) = Some (record { at = at; id = id_for 0 n; op = o })
+control_op n (control.Frame at bytes) = None
+control_op n (control.Proxy at key add) = None
+
+-- the operations of participant 0's items, of which the first has this number
+abbrev pub control_ops : ℕ → List ControlItem → List Entered
+control_ops n [] = []
+control_ops n (item ∷ items) = option_to_list (control_op n item) ++ control_ops (n + 1) items
+
+-- the operations of a sender's packets, of which the first has this number
+abbrev pub sender_ops : ℕ → ℕ → List SendItem → List Entered
+sender_ops p n [] = []
+sender_ops p n (item ∷ items) = record { at = item.at; id = id_for p n; op = op.Send item.key } ∷ sender_ops p (n + 1) items
+
+-- the operations of all senders, of which the first has this number
+abbrev pub senders_ops : ℕ → List (List SendItem) → List Entered
+senders_ops p [] = []
+senders_ops p (items ∷ senders) = sender_ops p 1 items ++ senders_ops (p + 1) senders
+
+-- one more operation in order of moment, behind those of its own moment
+abbrev pub insert : Entered → List Entered → List Entered
+insert x [] = x ∷ []
+insert x (y ∷ ys) = if nat_le y.at x.at then y ∷ insert x ys else x ∷ y ∷ ys
+
+-- in order of moment, and at equal moments as they were
+abbrev pub by_moment : List Entered → List Entered
+by_moment operations = fold (λ sorted x. insert x sorted) [] operations
+
+-- participant 0 goes first at equal moments, then the senders by number
+abbrev pub merged : Plan → List Entered
+merged plan = by_moment (control_ops 1 plan.control ++ senders_ops 1 plan.senders)
+
+-- a key's bucket is the last byte of its address modulo the number of buckets (this project's own)
+abbrev pub bucket_of : ℕ → Key → ℕ
+bucket_of buckets (V4 address) = address % 256 % buckets
+bucket_of buckets (V6 address) = address % 256 % buckets
+
+-- an operation without a key is applied to each bucket
+abbrev pub goes_to : ℕ → ℕ → Op → Bool
+goes_to buckets b o = option_map_or (λ key. bucket_of buckets key == b) (key_of o) true
+
+-- a bucket's operations in merged order
+abbrev pub merged_for : Plan → ℕ → List Entered
+merged_for plan b = filter (λ entered. goes_to plan.buckets b entered.op) (merged plan)

@@ -1,0 +1,6 @@
+//! What a run is: the operations of a plan in their order, the one inline run of it, and the text of its report.
+#![tactic(auto)]
+
+mod run;
+
+pub use run::Run;

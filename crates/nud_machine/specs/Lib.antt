@@ -1,0 +1,5 @@
+pub mod State
+pub mod Update
+pub mod Send
+pub mod Timer
+pub mod Step
