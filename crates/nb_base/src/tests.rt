@@ -147,25 +147,45 @@ fn states(rt: HostRuntime) {
 }
 
 #[test]
-fn small_parts(rt: HostRuntime) -> Result<(), Fail> {
-    assert_eq!(rt; read_number(b"0000000042"), Some(42));
-    assert_eq!(rt; read_number(b"9999999999"), Some(9_999_999_999));
-    assert_eq!(rt; read_number(b"00000000042"), None);
-    assert_eq!(rt; read_number(b""), None);
-    assert_eq!(rt; read_number(b"4a"), None);
-    assert_eq!(rt; read_hex_digit(b'F'), Some(15));
+fn numbers_and_digits(rt: HostRuntime) {
+    let cases = [
+        ("0000000042", Some(42)),
+        ("9999999999", Some(9_999_999_999)),
+        ("00000000042", None),
+        ("", None),
+        ("4a", None),
+    ];
+    for (text, wanted) in cases {
+        assert_eq!(rt; read_number(text.as_bytes()), wanted, "at {text}");
+    }
+    for (byte, value) in [(b'0', 0), (b'9', 9), (b'a', 10), (b'f', 15)] {
+        assert_eq!(rt; read_hex_digit(byte), Some(value));
+    }
     assert_eq!(rt; hex_digit(15), b'f');
+}
+
+#[test]
+fn cuts_at_the_first_separator(rt: HostRuntime) {
     let (front, behind) = cut(b"a:b:c", b':');
     assert_eq!(rt; front, b"a".as_slice());
     assert_eq!(rt; behind, Some(b"b:c".as_slice()));
+}
+
+#[test]
+fn printed_numbers_and_defaults(rt: HostRuntime) -> Result<(), Fail> {
     assert_eq!(rt; Moment(5).after(10).to_string(rt.alloc())?.as_str(), "15");
     assert_eq!(rt; OpId(33).to_string(rt.alloc())?.as_str(), "33");
     assert_eq!(rt; Params::default().proxy_delay, 800);
+    Ok(())
+}
+
+#[test]
+fn items_in_their_order(rt: HostRuntime) -> Result<(), Fail> {
     let mut items = Items::new(rt.alloc());
     items.push(7)?;
-    assert_eq!(rt; items.get(0).copied(), Some(7));
-    assert_eq!(rt; items.get(1).copied(), None);
-    assert_eq!(rt; items.len(), 1);
+    items.push(9)?;
+    assert_eq!(rt; items.get(1).copied(), Some(9));
+    assert_eq!(rt; items.as_slice(), [7, 9].as_slice());
     assert!(rt; !items.is_empty());
     Ok(())
 }
