@@ -1,7 +1,8 @@
 //! Inputs over the files of the system.
 ghost use Rattle.std.specs.Prelude.{◌≡◌, ◌≤◌, ℕ, length, IsTrue, None, is_some, IsSome, IsErr, IfOk, OnOk, OnErr, false};
 ghost use Rattle.nb_io.specs.Faults.{risen, HasCause};
-ghost use Rattle.nb_io.specs.Opened.{is_opened};
+ghost use Rattle.std.specs.Io.KnownBytes.{ReadConsumes};
+ghost use Rattle.nb_io.specs.Opened.{is_opened, behind};
 
 use crate::{Failed, Inputs};
 use std::fs;
@@ -94,6 +95,7 @@ impl<R: Files + Drop> Inputs for FileInputs<R> {
 fn read_opened<F: Read>(opened: &mut Option<F>, into: &mut [u8]) -> Result<usize, Failed>
     ensures count { IfOk result (λ count. count ≤ length into.new) }
     ensures opened { is_some opened.new ≡ is_some opened.old }
+    ensures passed { ReadConsumes (behind F.remaining opened.old) (behind F.remaining opened.new) result into.new }
 {
     let Some(file) = opened else {
         return Err(Failed);

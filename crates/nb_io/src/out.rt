@@ -1,5 +1,7 @@
 //! A sink over a writer of std.
-ghost use Rattle.std.specs.Prelude.{◌≡◌, ℕ, ◌<◌, None};
+ghost use Rattle.std.specs.Prelude.{◌≡◌, ℕ, ◌<◌, ◌≤◌, length, None, IfOk, OnOk, OnErr};
+ghost use Rattle.std.specs.Io.KnownBytes.{WriteAppends};
+ghost use Rattle.nb_io.specs.Faults.{risen, HasCause};
 
 use crate::{Failed, Sink};
 use std::io::Write;
@@ -34,8 +36,17 @@ impl<W: Write + Drop> Sink for OutSink<W> {
 
     ghost faults = { λ s. s.faults };
 
-    // A write that took nothing, or that claims to have taken more than it was given, is a fault.
-    fn write(&mut self, bytes: &[u8]) -> Result<usize, Failed> {
+    /// A write that took nothing, or that claims to have taken more than it was given, is a fault.
+    /// Where the writer tells what it holds, that grows by what was taken and by nothing else.
+    fn write(&mut self, bytes: &[u8]) -> Result<usize, Failed>
+        requires { 0 < length bytes.now }
+        ensures some { IfOk result (λ count. 0 < count) }
+        ensures count { IfOk result (λ count. count ≤ length bytes.now) }
+        ensures cause { HasCause self.old.faults self.new.faults result }
+        ensures passed { WriteAppends (W.contents self.old.inner) (W.contents self.new.inner) result bytes.now }
+        ensures kept { OnOk result (self.new.faults ≡ self.old.faults) }
+        ensures raised { OnErr result (self.new.faults ≡ risen self.old.faults) }
+    {
         match self.inner.write(bytes) {
             Ok(count) if count > 0 && count <= bytes.len() => Ok(count),
             _ => {
