@@ -1,8 +1,8 @@
 //! Inputs over the files of the system.
-ghost use Rattle.std.specs.Prelude.{◌≡◌, ◌≤◌, ℕ, length, IsTrue, None, is_some, IsSome, IsErr, IfOk, OnOk, OnErr, false};
+ghost use Rattle.std.specs.Prelude.{◌≡◌, ◌<◌, ◌≤◌, ℕ, List, length, IsTrue, None, is_some, IsSome, IsErr, IfOk, OnOk, OnErr, false};
 ghost use Rattle.nb_io.specs.Faults.{risen, HasCause};
 ghost use Rattle.std.specs.Io.KnownBytes.{ReadConsumes};
-ghost use Rattle.nb_io.specs.Opened.{is_opened, behind};
+ghost use Rattle.nb_io.specs.Opened.{is_opened, opened_at, behind};
 
 use crate::{Failed, Inputs};
 use std::fs;
@@ -78,7 +78,19 @@ impl<R: Files + Drop> Inputs for FileInputs<R> {
         Err(Failed)
     }
 
-    fn read(&mut self, file: u32, into: &mut [u8]) -> Result<usize, Failed> {
+    /// Where the opened file tells what it still gives, the bytes read are taken from its front.
+    fn read(&mut self, file: u32, into: &mut [u8]) -> Result<usize, Failed>
+        requires opened { (name : List ℕ) × IsTrue (is_opened self.old.first self.old.second file) }
+        requires room { 0 < length into.old }
+        ensures count { IfOk result (λ count. count ≤ length into.new) }
+        ensures names { (other : ℕ) → IsTrue (is_opened self.old.first self.old.second other) → IsTrue (is_opened self.new.first self.new.second other) }
+        ensures later { self.old.faults ≤ self.new.faults }
+        ensures cause { HasCause self.old.faults self.new.faults result }
+        ensures passed { ReadConsumes (behind R.File.remaining (opened_at self.old.first self.old.second file))
+            (behind R.File.remaining (opened_at self.new.first self.new.second file)) result into.new }
+        ensures kept { OnOk result (self.new.faults ≡ self.old.faults) }
+        ensures raised { OnErr result (self.new.faults ≡ risen self.old.faults) }
+    {
         let read = if file == 0 {
             read_opened(&mut self.first, into)
         } else {
