@@ -1,12 +1,16 @@
--- The journals that a bucket may have.
-use Rattle.std.specs.Prelude.{◌≡◌, ℕ, ◌<◌, ◌≤◌, is_some, List, [], ◌∷◌, ◌++◌, Option, Some, IfSome}
+-- The journals that a bucket may have, in six clauses (the rules of a bucket are this project's own, after Linux: neigh_timer_handler, neigh_periodic_work, neigh_forced_gc).
+use Rattle.std.specs.Prelude.{◌≡◌, ◌↔◌, ℕ, ◌+◌, ◌-◌, ◌*◌, ◌<◌, ◌≤◌, Bool, true, false, ◌||◌, ◌&&◌, not, ◌==◌, nat_lt, nat_le, if◌then◌else◌, is_some, List, [], ◌∷◌, ◌++◌, map, filter, Option, Some, None, IfSome}
+use Rattle.std.specs.Option.{option_to_list}
 use Rattle.nb_base.specs.declared.key.Key.{Key}
+use Rattle.nb_base.specs.declared.nud.Nud.TheVariants as nud
 use Rattle.nb_base.specs.declared.params.Params.{Params}
 use Rattle.nb_base.specs.declared.op.Op.{Op}
 use Rattle.nb_base.specs.declared.op.Op.TheVariants as op
 use Rattle.nb_base.specs.declared.line.Line.{Line}
-use Rattle.nb_journal.specs.Keys.{is_own}
-use Rattle.nb_journal.specs.Fold.{state_of, rank_of}
+use Rattle.nud_machine.specs.State.{State, same_nud}
+use Rattle.nb_journal.specs.Keys.{key_of, is_own, is_timer}
+use Rattle.nb_journal.specs.Effect.{Effect, Brings, effect, is_loose, has_waiting, is_past}
+use Rattle.nb_journal.specs.Fold.{state_of, rank_of, is_present, present_count}
 
 -- P holds of each of the lines with the lines before it, of which the past are the first
 abbrev pub each_line : (List Line → Line → Type 0) → List Line → List Line → Type 0
@@ -17,11 +21,18 @@ each_line P past (line ∷ lines) = P past line × each_line P (past ++ line ∷
 abbrev pub EachLine : (List Line → Line → Type 0) → List Line → Type 0
 EachLine P journal = each_line P [] journal
 
+-- a value that each line changes, seen with the lines before it, of which the past are the first
+abbrev pub fold_lines : {A : Type 0} → (A → List Line → Line → A) → A → List Line → List Line → A
+fold_lines f a past [] = a
+fold_lines f a past (line ∷ lines) = fold_lines f (f a past line) (past ++ line ∷ []) lines
+
 -- the moment of the last line, or 0
 abbrev pub last_moment : List Line → ℕ
 last_moment [] = 0
 last_moment (line ∷ []) = line.at
 last_moment (line ∷ next ∷ lines) = last_moment (next ∷ lines)
+
+-- ---- dues
 
 -- a key's due behind a journal
 abbrev pub due_of : Params → List Line → Key → Option ℕ
@@ -31,24 +42,183 @@ due_of p journal key = (state_of p journal key).entry.due
 abbrev pub NothingDue : Params → List Line → ℕ → Type 0
 NothingDue p journal moment = (key : Key) → IfSome (due_of p journal key) (λ due. moment < due)
 
+-- every due lies at the moment or behind it
+abbrev pub NothingOverdue : Params → List Line → ℕ → Type 0
+NothingOverdue p journal moment = (key : Key) → IfSome (due_of p journal key) (λ due. moment ≤ due)
+
 -- the key's timer is the next: it has the least due, and among equal dues the least rank
 pub record IsNextDue (p : Params) (journal : List Line) (key : Key) (moment : ℕ) : Type 0 where
   pub due : due_of p journal key ≡ Some moment
-  pub least : (other : Key) → IfSome (due_of p journal other) (λ other_due. moment ≤ other_due)
+  pub least : NothingOverdue p journal moment
   pub first : (other : Key) → due_of p journal other ≡ Some moment → rank_of journal key ≤ rank_of journal other
 
--- a timer's line stands at its due and is the next; before every other line nothing is due any more
-abbrev pub IsInTime : Params → List Line → ℕ → Op → Type 0
-IsInTime p past at (op.Timer key) = IsNextDue p past key at
-IsInTime p past at _ = NothingDue p past at
+-- a timer's line is the next
+abbrev pub IsTimersTurn : Params → List Line → ℕ → Op → Type 0
+IsTimersTurn p past at (op.Timer key) = IsNextDue p past key at
+IsTimersTurn p past at _ = Unit {0}
 
--- a journal is lawful at a clock (by now for tables in which no sweep and no forced pass is due)
-pub record IsLawful (p : Params) (journal : List Line) (clock : ℕ) : Type 0 where
-  -- moments never fall, and are at most the clock
+-- before every other line nothing is due any more
+abbrev pub PassesNoDue : Params → List Line → ℕ → Op → Type 0
+PassesNoDue p past at (op.Timer key) = Unit {0}
+PassesNoDue p past at _ = NothingDue p past at
+
+-- ---- sweeps
+
+-- a multiple of the sweep interval, from one times on
+abbrev pub IsSweepMoment : Params → ℕ → Type 0
+IsSweepMoment p u = (n : ℕ) × (u ≡ (n + 1) * p.gc_interval)
+
+-- a line below the moment, or a timer's line at it, stands before a sweep at it
+abbrev pub is_before_sweep : ℕ → Line → Bool
+is_before_sweep u line = nat_lt line.at u || (line.at == u && is_timer line.op)
+
+-- the lines that stand before a sweep at the moment
+abbrev pub before_sweep : ℕ → List Line → List Line
+before_sweep u journal = filter (is_before_sweep u) journal
+
+abbrev pub sweep_line : ℕ → Line
+sweep_line u = record { at = u; id = None; op = op.Sweep; full = None }
+
+-- a sweep at the moment stands right behind the lines before it
+abbrev pub HasSweep : ℕ → List Line → Type 0
+HasSweep u journal = (rest : List Line) × (journal ≡ before_sweep u journal ++ sweep_line u ∷ rest)
+
+-- enough entries are present for a sweep
+abbrev pub IsCrowded : Params → List Line → Type 0
+IsCrowded p journal = p.gc_thresh1 ≤ present_count p journal
+
+-- a sweep line is one of those, at its moment
+pub record IsSweepInPlace (p : Params) (journal past : List Line) (line : Line) : Type 0 where
+  pub moment : IsSweepMoment p line.at
+  pub line_is : line ≡ sweep_line line.at
+  pub behind : past ≡ before_sweep line.at journal
+
+-- no sweep line stands elsewhere
+abbrev pub HasNoOtherSweep : Params → List Line → Type 0
+HasNoOtherSweep p journal = (past rest : List Line) (line : Line) → journal ≡ past ++ line ∷ rest → line.op ≡ op.Sweep → IsSweepInPlace p journal past line
+
+-- ---- making and forced passes
+
+-- a collect line
+abbrev pub is_collect : Op → Bool
+is_collect (op.Collect key) = true
+is_collect _ = false
+
+-- the lines without the collect lines at their end
+abbrev pub base_of : List Line → List Line
+base_of [] = []
+base_of (line ∷ lines) = add_to line (base_of lines)
+  where
+    add_to : Line → List Line → List Line
+    add_to line [] = if is_collect line.op then [] else line ∷ []
+    add_to line (next ∷ rest) = line ∷ next ∷ rest
+
+abbrev pub brings_event : Effect → Bool
+brings_event (Brings e) = true
+brings_event _ = false
+
+-- the key for which an own line would make an entry, where its entry is absent behind the base
+abbrev pub made_by : Params → List Line → Line → Option Key → Option Key
+made_by p base line None = None
+made_by p base line (Some key) =
+    if is_own line.op && not (is_present p base key) && brings_event (effect p line (state_of p base key) line.op) then Some key else None
+
+abbrev pub making : Params → List Line → Line → Option Key
+making p base line = made_by p base line (key_of line.op)
+
+-- a forced pass is due, from the number present and the moment of the last pass
+abbrev pub is_pass_due : Params → ℕ → ℕ → ℕ → Bool
+is_pass_due p present last at = nat_le p.gc_thresh3 present || (nat_le p.gc_thresh2 present && nat_lt (last + 5000) at)
+
+-- a making line whose pass was due
+abbrev pub pass_after : Params → ℕ → List Line → Line → ℕ
+pass_after p last past line =
+    if is_some (making p (base_of past) line) && is_pass_due p (present_count p (base_of past)) last line.at then line.at else last
+
+-- the moment of the last one, or 0
+unfoldable pub last_pass : Params → List Line → ℕ
+last_pass p journal = fold_lines (pass_after p) 0 [] journal
+
+-- a line takes away what it removes, and a key that it makes goes last
+abbrev pub order_after : Params → List Key → List Line → Line → List Key
+order_after p keys past line =
+    filter (is_present p (past ++ line ∷ [])) keys ++ (if is_some line.full then [] else option_to_list (making p (base_of past) line))
+
+-- the present keys in the order in which they were last made
+unfoldable pub making_order : Params → List Line → List Key
+making_order p journal = fold_lines (order_after p) [] [] journal
+
+-- a forced pass removes the entry: loose, no packet waits, and FAILED or unchanged for more than five seconds
+abbrev pub is_collectable : ℕ → State → Bool
+is_collectable at s = is_loose s && not (has_waiting s) && (same_nud s.entry.nud nud.Failed || is_past at (Some s.entry.updated) 5000)
+
+-- those that it takes, in order, until fewer than the limit are left; the number is tested before each
+abbrev pub collected : ℕ → ℕ → (Key → Bool) → List Key → List Key
+collected limit present takes [] = []
+collected limit present takes (key ∷ keys) =
+    if nat_lt present limit then []
+    else (if takes key then key ∷ collected limit (present - 1) takes keys else collected limit present takes keys)
+
+abbrev pub collect_line : ℕ → Key → Line
+collect_line at key = record { at = at; id = None; op = op.Collect key; full = None }
+
+-- the collect lines that stand right before an own line
+abbrev pub collects : Params → List Line → Line → List Line
+collects p base line =
+    if is_some (making p base line) && is_pass_due p (present_count p base) (last_pass p base) line.at
+    then map (collect_line line.at) (collected p.gc_thresh2 (present_count p base) (λ key. is_collectable line.at (state_of p base key)) (making_order p base))
+    else []
+
+-- before an own line stand exactly its collect lines; before a timer and a sweep none
+abbrev pub HasItsPass : Params → List Line → Line → Op → Type 0
+HasItsPass p past line (op.Timer key) = base_of past ≡ past
+HasItsPass p past line op.Sweep = base_of past ≡ past
+HasItsPass p past line (op.Collect key) = Unit {0}
+HasItsPass p past line _ = past ≡ base_of past ++ collects p (base_of past) line
+
+-- the number of entries in the way of a making line, where they are too many
+abbrev pub full_of : Params → List Line → Line → Option ℕ
+full_of p past line =
+    if is_some (making p (base_of past) line) && nat_le p.gc_thresh3 (present_count p past) then Some (present_count p past) else None
+
+-- ---- lawful journals
+
+-- what holds of a journal whatever the clock
+pub record IsOrderly (p : Params) (journal : List Line) : Type 0 where
+  -- 1. moments never fall, and exactly the bucket's own lines have no id
   pub moments : EachLine (λ past line. last_moment past ≤ line.at) journal
-  pub within : last_moment journal ≤ clock
-  -- exactly the bucket's own lines have no id
   pub ids : EachLine (λ past line. is_some line.id ≡ is_own line.op) journal
-  -- every timer stands on its moment, and none is passed
-  pub timers : EachLine (λ past line. IsInTime p past line.at line.op) journal
+  -- 2. a timer's line names the key whose due is the next, at its due
+  pub timers : EachLine (λ past line. IsTimersTurn p past line.at line.op) journal
+  -- 3. before every other line no key has a due of at most its moment
+  pub dues : EachLine (λ past line. PassesNoDue p past line.at line.op) journal
+  -- 4. no sweep line stands but in its place
+  pub sweeps_only : HasNoOtherSweep p journal
+  -- 5. before a making line whose pass is due stand its collect lines, and there are no others
+  pub passes : EachLine (λ past line. HasItsPass p past line line.op) journal
+  pub passes_only : base_of journal ≡ journal
+  -- 6. `full` is there exactly on a making line that finds too many entries
+  pub full : EachLine (λ past line. line.full ≡ full_of p past line) journal
+
+-- a journal is lawful at a clock
+pub record IsLawful (p : Params) (journal : List Line) (clock : ℕ) : Type 0 where
+  pub orderly : IsOrderly p journal
+  -- 1. moments are at most the clock
+  pub within : last_moment journal ≤ clock
+  -- 3. no key has a due of at most the clock
   pub none_left : NothingDue p journal clock
+  -- 4. at each multiple of the interval up to the clock a sweep stands exactly where enough entries are present
+  pub sweeps : (u : ℕ) → IsSweepMoment p u → u ≤ clock → (HasSweep u journal ↔ IsCrowded p (before_sweep u journal))
+
+-- the last line is a timer's, at the moment
+abbrev pub EndsAtTimer : List Line → ℕ → Type 0
+EndsAtTimer journal clock = (past : List Line) × (line : Line) × (journal ≡ past ++ line ∷ []) × (is_timer line.op ≡ true) × (line.at ≡ clock)
+
+-- a call was refused between two lines of one moment: a key may still be due at the clock, and no sweep stands at it though one may be asked for
+pub record IsBrokenOff (p : Params) (journal : List Line) (clock : ℕ) : Type 0 where
+  pub orderly : IsOrderly p journal
+  pub within : last_moment journal ≤ clock
+  pub ends : EndsAtTimer journal clock
+  pub none_overdue : NothingOverdue p journal clock
+  pub sweeps : (u : ℕ) → IsSweepMoment p u → u < clock → (HasSweep u journal ↔ IsCrowded p (before_sweep u journal))
+  pub no_sweep_yet : HasSweep clock journal → ⊥

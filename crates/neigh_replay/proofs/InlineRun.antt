@@ -9,8 +9,10 @@ use Rattle.nud_machine.specs.State.{absent}
 use Rattle.nud_machine.proofs.Same.{same_mac-same}
 use Rattle.nb_journal.specs.Keys.{is_key}
 use Rattle.nb_journal.specs.Fold.{change, state_of}
+use Rattle.nb_base.specs.declared.line.Line.{Line}
 use Rattle.nb_journal.specs.Lawful.{NothingDue, IsLawful}
 use Rattle.nb_journal.proofs.Changes.{change-named, change-other}
+use Rattle.nb_journal.proofs.Quiet.{IsQuiet, quiet_orderly, quiet_lawful}
 use Rattle.neigh_run.specs.Report.{report_text}
 use Rattle.neigh_run.specs.Inline.{IsInlineRun, IsInlineJournal}
 use Rattle.neigh_replay.specs.declared.first_path.Added.{Added}
@@ -54,12 +56,40 @@ unfolding state_of
 nothing_due-send added sending moment key =
     if_none (change default_params (send_packet (send_item added sending)) key (change default_params (add_entry added) key absent).state).state.entry.due moment (due-send added sending key (is_key (V4 added.address) key) refl)
 
+-- the journals are short, and have no sweeps and collects
+quiet-empty : IsQuiet default_params []
+quiet-empty = record { quiet = tt; none_full = tt; few1 = omega arith; few2 = omega arith; few3 = omega arith }
+
+lawful-empty : IsLawful default_params [] 0
+lawful-empty = quiet_lawful default_params [] 0 quiet-empty (quiet_orderly default_params [] quiet-empty tt tt tt tt) (omega arith) (nothing_due-empty 0)
+
+quiet-add : (added : Added) → IsQuiet default_params (add_entry added ∷ [])
+quiet-add added = record { quiet = (refl, tt); none_full = (refl, tt); few1 = omega arith; few2 = omega arith; few3 = omega arith }
+
+lawful-add : (added : Added) → IsLawful default_params (add_entry added ∷ []) added.at
+lawful-add added =
+    quiet_lawful default_params (add_entry added ∷ []) added.at (quiet-add added)
+    (quiet_orderly default_params (add_entry added ∷ []) (quiet-add added) (omega arith, tt) (refl, tt) (tt, tt) (nothing_due-empty added.at, tt))
+    (omega arith) (nothing_due-add added added.at)
+
+abbrev two_lines : Added → Sending → List Line
+two_lines added sending = add_entry added ∷ send_packet (send_item added sending) ∷ []
+
+quiet-send : (added : Added) (sending : Sending) → IsQuiet default_params (two_lines added sending)
+quiet-send added sending = record { quiet = (refl, (refl, tt)); none_full = (refl, (refl, tt)); few1 = omega arith; few2 = omega arith; few3 = omega arith }
+
+lawful-send : (added : Added) (sending : Sending) → added.at ≤ sending.at → IsLawful default_params (two_lines added sending) sending.at
+lawful-send added sending le =
+    quiet_lawful default_params (two_lines added sending) sending.at (quiet-send added sending)
+    (quiet_orderly default_params (two_lines added sending) (quiet-send added sending) (omega arith, (le, tt)) (refl, (refl, tt)) (tt, (tt, tt)) (nothing_due-empty added.at, (nothing_due-add added sending.at, tt)))
+    (omega arith) (nothing_due-send added sending sending.at)
+
 alone_is_inline : (h : Host) → IsInlineRun (plan_of (Alone h)) (run_of (Alone h))
 alone_is_inline h = record {
   mode = refl;
   plan = refl;
   buckets = refl;
-  journals = (record { lawful = record { moments = tt; within = omega arith; ids = tt; timers = tt; none_left = nothing_due-empty 0 }; ends = refl; entered = refl }, tt);
+  journals = (record { lawful = lawful-empty; ends = refl; entered = refl }, tt);
   logs = refl;
   host_lines = refl;
   marks = refl;
@@ -67,7 +97,7 @@ alone_is_inline h = record {
 
 entry_journal : (h : Host) (added : Added) → IsInlineJournal (plan_of (Entry h added)) 0 (add_entry added ∷ [])
 entry_journal h added = record {
-  lawful = record { moments = (omega arith, tt); within = omega arith; ids = (refl, tt); timers = (nothing_due-empty added.at, tt); none_left = nothing_due-add added added.at };
+  lawful = lawful-add added;
   ends = refl;
   entered = rw (bucket_of-one (V4 added.address)) refl;
 }
@@ -85,13 +115,7 @@ entry_is_inline h added = record {
 
 packet_journal : (h : Host) (added : Added) (sending : Sending) → added.at ≤ sending.at → IsInlineJournal (plan_of (Packet h added sending)) 0 (add_entry added ∷ send_packet (send_item added sending) ∷ [])
 packet_journal h added sending le = record {
-  lawful = record {
-    moments = (omega arith, (le, tt));
-    within = omega arith;
-    ids = (refl, (refl, tt));
-    timers = (nothing_due-empty added.at, (nothing_due-add added sending.at, tt));
-    none_left = nothing_due-send added sending sending.at;
-  };
+  lawful = lawful-send added sending le;
   ends = refl;
   entered = rw (le-leb added.at sending.at le, bucket_of-one (V4 added.address)) refl;
 }

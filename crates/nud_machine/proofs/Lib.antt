@@ -1,1 +1,7 @@
 pub mod Same
+pub mod Leaving
+pub mod Keeps
+pub mod Rises
+pub mod Order
+pub mod Headers
+pub mod Rows

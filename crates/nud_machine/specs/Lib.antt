@@ -3,3 +3,7 @@ pub mod Update
 pub mod Send
 pub mod Timer
 pub mod Step
+pub mod Asked
+pub mod Kept
+pub mod Record
+pub mod Laws

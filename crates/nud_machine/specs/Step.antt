@@ -32,7 +32,7 @@ na_manner overrides = record { overrides = overrides; weak = true; admin = false
 abbrev pub admin_manner : Manner
 admin_manner = record { overrides = true; weak = false; admin = true }
 
--- the entry keeps its advertisement's router mark
+-- the same step to another entry
 abbrev pub with_entry : Stepped → Entry → Stepped
 with_entry done entry = record { state = record done.state { entry = entry }; acts = done.acts }
 

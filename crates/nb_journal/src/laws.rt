@@ -1,0 +1,46 @@
+//! The laws of journals. Each function does nothing: its contract is the law.
+ghost use Rattle.nb_journal.specs.Laws.{KeysGrow, RanksStay, DuesLieAhead, SweepsCutInTwo, EmptyIsLawful, LawfulEarlier, GoesOnByOperation, CellsPublishStates, TimersLower, PotentialsAreSmall, LawfulInBound, BrokenOffInBound};
+
+/// The keys that a journal knows are the first of those that a longer one knows, and each keeps its rank.
+pub fn known_keys_only_grow()
+    ensures grow { KeysGrow }
+    ensures stay { RanksStay }
+{}
+
+/// A due that a line sets lies at least ten milliseconds behind the line.
+pub fn dues_lie_ahead()
+    ensures { DuesLieAhead }
+{}
+
+/// The lines before a sweep's moment and the timers at it are the first lines of a lawful journal.
+pub fn sweeps_cut_in_two()
+    ensures { SweepsCutInTwo }
+{}
+
+/// The empty journal is lawful, and a lawful journal goes on by each operation's line, behind the collects that it asks for.
+pub fn lawful_goes_on()
+    ensures empty { EmptyIsLawful }
+    ensures operation { GoesOnByOperation }
+{}
+
+/// A lawful journal is lawful at every lesser clock that its last line hasn't passed.
+pub fn lawful_earlier()
+    ensures { LawfulEarlier }
+{}
+
+/// The records that a key's cell publishes are those of its entry's successive states, equal neighbours once.
+pub fn cells_publish_states()
+    ensures { CellsPublishStates }
+{}
+
+/// A timer lowers its entry's potential, and no potential is large.
+pub fn timers_lower_potentials()
+    ensures lower { TimersLower }
+    ensures small { PotentialsAreSmall }
+{}
+
+/// A journal has fewer lines than its line bound. With the operation that goes on a lawful journal, its collects and its line count in too.
+pub fn journals_stay_in_bound()
+    ensures lawful { LawfulInBound }
+    ensures broken_off { BrokenOffInBound }
+{}

@@ -1,0 +1,134 @@
+//! One step of an entry's machine.
+ghost use Rattle.std.specs.Prelude.{◌≡◌, ◌≤◌, [], length, List, IsTrue};
+ghost use Rattle.nb_base.specs.Params.{InRange};
+ghost use Rattle.nb_queues.specs.Queue.{Queue};
+ghost use Rattle.nud_machine.specs.declared.act.Act.{Act};
+ghost use Rattle.nud_machine.specs.Asked.{greatest, IsInRun, NamesSettable, FiresAtDue};
+ghost use Rattle.nud_machine.specs.Kept.{state_of, stepped};
+ghost use Rattle.nud_machine.specs.State.{IsSound, waits_in};
+ghost use Rattle.nud_machine.specs.Step as spec;
+
+use crate::news::{News, same_mac, same_nud};
+use crate::packets::drop_all;
+use crate::sending::send;
+use crate::timer::fire;
+use crate::updating::{advertise, update};
+use crate::{Acts, Cause, Entry, Event};
+use nb_base::{Moment, Params};
+use nb_queues::WaitQueue;
+
+/// What the event does, but for the moment of the last change.
+fn apply(
+    entry: &mut Entry,
+    params: &Params,
+    at: Moment,
+    event: &Event,
+    waiting: &mut WaitQueue,
+    acts: &mut Acts,
+)
+    requires params { InRange params.now }
+    requires now { at ≤ greatest }
+    requires moments { IsInRun entry.old }
+    requires waits { waits_in entry.old.nud waiting.old.ids }
+    requires few { length waiting.old.ids ≤ params.now.unres_qlen }
+    requires capacity { waiting.old.capacity ≡ params.now.unres_qlen }
+    requires none { acts.old ≡ [] }
+    ensures step { stepped entry.new waiting.new acts.new ≡ spec.move params.now at (state_of entry.old waiting.old) event.now }
+    ensures capacity { waiting.new.capacity ≡ waiting.old.capacity }
+{
+    match *event {
+        Event::Send(id) => send(entry, params, at, id, waiting, acts),
+        Event::Arp { mac, solicited } => {
+            let news = News::arp(entry, params, at, mac, solicited);
+            let _rule = update(entry, params, at, &news, waiting, acts);
+        }
+        Event::Ns { mac } => {
+            let _rule = update(entry, params, at, &News::ns(mac), waiting, acts);
+        }
+        Event::Na {
+            mac,
+            router,
+            solicited,
+            overrides,
+        } => {
+            let news = News::na(mac, solicited, overrides);
+            advertise(entry, params, at, &news, router, waiting, acts);
+        }
+        Event::Admin { mac, nud } => {
+            let _rule = update(entry, params, at, &News::admin(mac, nud), waiting, acts);
+        }
+        Event::Confirm => {
+            if entry.nud.is_valid() {
+                entry.confirmed = Some(at);
+            }
+        }
+        Event::Timer => fire(entry, params, at, waiting, acts),
+        Event::Remove => {
+            *entry = Entry::absent();
+            drop_all(Cause::Removed, waiting, acts);
+        }
+    }
+}
+
+/// An entry that is present and whose state or address changed was updated now.
+fn stamp(entry: &mut Entry, before: &Entry, at: Moment)
+    ensures { (queue : Queue) (acts : List Act) → stepped entry.new queue acts ≡ spec.stamp at before.now (stepped entry.old queue acts) }
+{
+    if entry.present && !(same_nud(entry.nud, before.nud) && same_mac(entry.mac, before.mac)) {
+        entry.updated = at;
+    }
+}
+
+/// The event, and then the moment of the last change.
+fn run(
+    entry: &mut Entry,
+    params: &Params,
+    at: Moment,
+    event: &Event,
+    waiting: &mut WaitQueue,
+    acts: &mut Acts,
+)
+    requires params { InRange params.now }
+    requires now { at ≤ greatest }
+    requires moments { IsInRun entry.old }
+    requires sound { IsSound params.now (state_of entry.old waiting.old) }
+    requires capacity { waiting.old.capacity ≡ params.now.unres_qlen }
+    ensures step { stepped entry.new waiting.new acts.new ≡ spec.step params.now at (state_of entry.old waiting.old) event.now }
+    ensures capacity { waiting.new.capacity ≡ waiting.old.capacity }
+{
+    let before = *entry;
+    acts.clear();
+    apply(entry, params, at, event, waiting, acts);
+    stamp(entry, &before, at);
+}
+
+/// One step of a present entry: what the event does to it and to the packets that wait for it, and the
+/// acts that it brings, which replace those of the step before. It takes no memory (RFC 4861 section
+/// 7.3 and appendix C; Linux, net/core/neighbour.c).
+///
+/// The queue has room for `unres_qlen` packets. The moment and those of the entry other than its due are
+/// at most 30 days; a timer fires at the entry's due; by hand an entry becomes PERMANENT, NOARP,
+/// REACHABLE or STALE.
+pub fn step(
+    entry: &mut Entry,
+    params: &Params,
+    at: Moment,
+    event: &Event,
+    waiting: &mut WaitQueue,
+    acts: &mut Acts,
+)
+    requires params { InRange params.now }
+    requires now { at ≤ greatest }
+    requires moments { IsInRun entry.old }
+    requires present { IsTrue entry.old.present }
+    requires settable { NamesSettable event.now }
+    requires due { FiresAtDue event.now at entry.old }
+    requires sound { IsSound params.now (state_of entry.old waiting.old) }
+    requires capacity { waiting.old.capacity ≡ params.now.unres_qlen }
+    ensures step { stepped entry.new waiting.new acts.new ≡ spec.step params.now at (state_of entry.old waiting.old) event.now }
+    ensures sound { IsSound params.now (state_of entry.new waiting.new) }
+    ensures moments { IsInRun entry.new }
+    ensures capacity { waiting.new.capacity ≡ waiting.old.capacity }
+{
+    run(entry, params, at, event, waiting, acts);
+}
