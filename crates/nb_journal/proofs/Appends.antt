@@ -1,18 +1,17 @@
 -- A lawful journal goes on by a line that may stand behind it.
-use Rattle.std.proofs.Common.{◌≡◌, ◌⊎◌, inl, inr, ⊎_elim, ℕ, ◌+◌, ◌<◌, ◌≤◌, Bool, true, false, List, [], ◌∷◌, ◌++◌, Option, Some, None, refl, sym, ◌∙◌, ap, subst, arith, append_assoc}
+use Rattle.std.proofs.Common.{◌≡◌, ⊎_elim, ℕ, ◌+◌, ◌<◌, ◌≤◌, true, false, List, [], ◌∷◌, ◌++◌, refl, sym, ◌∙◌, ap, subst, arith, append_assoc}
 use Rattle.std.proofs.lemmas.Bool.{cases_lt}
 use Rattle.std.proofs.Math.Nat.{mul-le-mul_right}
-use Rattle.nb_base.specs.declared.key.Key.{Key}
 use Rattle.nb_base.specs.declared.params.Params.{Params}
 use Rattle.nb_base.specs.declared.op.Op.{Op}
 use Rattle.nb_base.specs.declared.op.Op.TheVariants as op
 use Rattle.nb_base.specs.declared.line.Line.{Line}
 use Rattle.nb_base.specs.Params.{InRange}
 use Rattle.nb_journal.specs.Keys.{is_own, is_timer}
-use Rattle.nb_journal.specs.Lawful.{EachLine, last_moment, NothingDue, IsSweepMoment, is_before_sweep, before_sweep, sweep_line, HasSweep, IsCrowded, is_collect, base_of, collect_line, IsLawful, IsBrokenOff, EndsAtTimer}
-use Rattle.nb_journal.proofs.Lines.{each-snoc, last_moment-snoc, base_of-collect, base_of-other}
+use Rattle.nb_journal.specs.Lawful.{last_moment, IsSweepMoment, is_before_sweep, before_sweep, sweep_line, HasSweep, IsCrowded, is_collect, IsLawful}
+use Rattle.nb_journal.proofs.Lines.{each-snoc, last_moment-snoc, base_of-other}
 use Rattle.nb_journal.proofs.Dues.{DuesFrom, dues_from-nil, dues_from-less, dues_from-snoc, nothing_due-from, dues_from-nothing_due}
-use Rattle.nb_journal.proofs.Fits.{Fits, Runs, dues_at, dues_behind, before_other, before_late, before-off, runs-lawful, lawful-runs, runs-broken_off, broken_off-runs}
+use Rattle.nb_journal.proofs.Fits.{Fits, Runs, dues_at, dues_behind, before_other, before_late, before-off, runs-lawful, lawful-runs}
 
 has_sweep-snoc : (u : ℕ) (lines : List Line) (l : Line) → is_before_sweep u l ≡ false → HasSweep u lines → HasSweep u (lines ++ l ∷ [])
 has_sweep-snoc u lines l off has = (

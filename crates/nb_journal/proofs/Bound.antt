@@ -1,5 +1,5 @@
 -- The line bound: what a journal's lines are paid by.
-use Rattle.std.proofs.Common.{◌≡◌, ◌⊎◌, inl, inr, ⊎_elim, ℕ, suc, ◌+◌, ◌*◌, ◌/◌, ◌<◌, ◌≤◌, Bool, true, false, ◌&&◌, is_some, if◌then◌else◌, List, [], ◌∷◌, ◌++◌, length, Option, Some, None, refl, sym, ◌∙◌, ap, subst, arith, append_assoc, append-nil}
+use Rattle.std.proofs.Common.{◌≡◌, ⊎_elim, ℕ, suc, ◌+◌, ◌*◌, ◌<◌, ◌≤◌, Bool, true, false, ◌&&◌, is_some, if◌then◌else◌, List, [], ◌∷◌, ◌++◌, length, refl, sym, ◌∙◌, ap, subst, arith, append_assoc, append-nil}
 use Rattle.std.specs.Prelude.{map, filter}
 use Rattle.std.proofs.lemmas.Bool.{cond_both, cases_lt, false≢true}
 use Rattle.std.proofs.lemmas.List.{length-append, length-map}
@@ -13,18 +13,16 @@ use Rattle.nb_base.specs.declared.op.Op.TheVariants as op
 use Rattle.nb_base.specs.declared.line.Line.{Line}
 use Rattle.nb_base.specs.Params.{InRange}
 use Rattle.nb_journal.specs.Keys.{is_own, is_timer, key_of}
-use Rattle.nb_journal.specs.Fold.{present_count, state_of, is_present, known_keys}
-use Rattle.nb_journal.specs.Lawful.{each_line, EachLine, last_moment, due_of, IsNextDue, IsTimersTurn, IsSweepMoment, is_before_sweep, before_sweep, sweep_line, is_collect, base_of, making, is_pass_due, last_pass, making_order, is_collectable, collected, collect_line, collects, HasItsPass, full_of, IsLawful, IsBrokenOff}
+use Rattle.nb_journal.specs.Fold.{present_count, state_of, known_keys}
+use Rattle.nb_journal.specs.Lawful.{each_line, EachLine, last_moment, IsTimersTurn, is_before_sweep, before_sweep, is_collect, base_of, making, is_pass_due, last_pass, making_order, is_collectable, collected, collect_line, collects, HasItsPass}
 use Rattle.nb_journal.specs.Accounts.{total_potential, own_lines, line_bound}
 use Rattle.nb_journal.specs.Laws.{LawfulInBound, BrokenOffInBound}
 use Rattle.nb_journal.proofs.Lines.{by_last, each-last, last_moment-snoc, base_of-collect, base_of-other}
 use Rattle.nb_journal.proofs.Folds.{filter_within}
-use Rattle.nb_journal.proofs.Fits.{Fits, FitsSweep, before_early, before_other, lawful-runs, broken_off-runs}
+use Rattle.nb_journal.proofs.Fits.{Fits, FitsSweep, before_other, lawful-runs, broken_off-runs}
 use Rattle.nb_journal.proofs.Appends.{sweep_moment-above}
 use Rattle.nb_journal.proofs.Passes.{own-full}
-use Rattle.nb_journal.proofs.Grows.{has_key}
-use Rattle.nb_journal.proofs.Counts.{AreDistinct}
-use Rattle.nb_journal.proofs.Totals.{total-free, total-line, total-timer, total-collects, total-is}
+use Rattle.nb_journal.proofs.Totals.{total-free, total-line, total-timer, total-collects}
 use Rattle.nb_journal.proofs.Orders.{order-is, collected-within, collected-distinct}
 
 abbrev is_sweep : Op → Bool

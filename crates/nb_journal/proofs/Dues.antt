@@ -8,7 +8,7 @@ use Rattle.nb_base.specs.declared.op.Op.{Op}
 use Rattle.nb_base.specs.declared.op.Op.TheVariants as op
 use Rattle.nb_base.specs.declared.line.Line.{Line}
 use Rattle.nb_base.specs.Params.{InRange}
-use Rattle.nud_machine.specs.State.{State, Stepped, absent, made, stays}
+use Rattle.nud_machine.specs.State.{State, Stepped, made, stays}
 use Rattle.nb_journal.specs.Keys.{is_key, key_of}
 use Rattle.nb_journal.specs.Effect.{Effect, Passes, Refuses, Brings, effect}
 use Rattle.nb_journal.specs.Fold.{meet, turn_away, change_by, change, state_of}

@@ -1,5 +1,5 @@
 -- What may stand behind a history, line by line: the working form of the lawful journal, and that the two agree.
-use Rattle.std.proofs.Common.{◌≡◌, ◌⊎◌, inl, inr, ⊎_elim, ℕ, ◌+◌, ◌<◌, ◌≤◌, Bool, true, false, is_some, if◌then◌else◌, List, [], ◌∷◌, ◌++◌, Option, Some, None, refl, sym, ◌∙◌, ap, subst, arith, append_assoc, append-nil}
+use Rattle.std.proofs.Common.{◌≡◌, ⊎_elim, ℕ, ◌+◌, ◌<◌, ◌≤◌, Bool, true, false, is_some, if◌then◌else◌, List, [], ◌∷◌, ◌++◌, Some, refl, sym, ◌∙◌, ap, subst, arith, append_assoc, append-nil}
 use Rattle.std.specs.Prelude.{filter}
 use Rattle.std.proofs.lemmas.Bool.{cases_lt, false≢true}
 use Rattle.std.proofs.lemmas.Bool.Decides.{nat_tests}
@@ -11,8 +11,8 @@ use Rattle.nb_base.specs.declared.op.Op.TheVariants as op
 use Rattle.nb_base.specs.declared.line.Line.{Line}
 use Rattle.nb_base.specs.Params.{InRange}
 use Rattle.nb_journal.specs.Keys.{is_own, is_timer}
-use Rattle.nb_journal.specs.Lawful.{each_line, EachLine, last_moment, due_of, NothingDue, NothingOverdue, IsNextDue, IsTimersTurn, PassesNoDue, IsSweepMoment, is_before_sweep, before_sweep, sweep_line, HasSweep, IsCrowded, IsSweepInPlace, HasNoOtherSweep, is_collect, base_of, HasItsPass, full_of, IsOrderly, IsLawful, EndsAtTimer, IsBrokenOff}
-use Rattle.nb_journal.proofs.Lines.{split_last, each-snoc, each-last, each-at, each-of, each-map, each-behind, last_moment-snoc, base_of-other}
+use Rattle.nb_journal.specs.Lawful.{each_line, EachLine, last_moment, due_of, IsTimersTurn, PassesNoDue, IsSweepMoment, is_before_sweep, before_sweep, sweep_line, HasSweep, IsCrowded, IsSweepInPlace, HasNoOtherSweep, is_collect, base_of, HasItsPass, full_of, IsOrderly, IsLawful, EndsAtTimer, IsBrokenOff}
+use Rattle.nb_journal.proofs.Lines.{split_last, each-last, each-at, each-of, each-map, each-behind, last_moment-snoc, base_of-other}
 use Rattle.nb_journal.proofs.Dues.{DuesFrom, nothing_due-from, dues_from-nothing_due, nothing_overdue-from, dues_from-nothing_overdue, dues_from-less, dues_from-snoc}
 
 -- a sweep's line is in its place

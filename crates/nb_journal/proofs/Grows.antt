@@ -1,14 +1,14 @@
 -- The known keys only grow, and a rank never changes.
-use Rattle.std.proofs.Common.{◌≡◌, ◌⊎◌, inl, inr, ⊎_elim, ℕ, ◌+◌, ◌<◌, ◌≤◌, Bool, true, false, ◌||◌, if◌then◌else◌, List, [], ◌∷◌, ◌++◌, length, Option, Some, None, refl, sym, ◌∙◌, ap, subst, arith, append_assoc, append-nil}
+use Rattle.std.proofs.Common.{◌≡◌, Bool, true, false, List, [], ◌∷◌, ◌++◌, Option, Some, None, refl, sym, ◌∙◌, ap, arith, append_assoc, append-nil}
 use Rattle.std.specs.List.{list_any}
-use Rattle.std.proofs.lemmas.Bool.{eqb-true, cond_both, cases_Bool}
+use Rattle.std.proofs.lemmas.Bool.{eqb-true, cond_both}
 use Rattle.nb_base.specs.declared.key.Key.{Key}
 use Rattle.nb_base.specs.declared.key.Key.TheVariants.{V4, V6}
 use Rattle.nb_base.specs.declared.line.Line.{Line}
 use Rattle.nb_journal.specs.Keys.{is_key, made_known, place_among}
 use Rattle.nb_journal.specs.Fold.{with_key, known_keys, rank_of}
 use Rattle.nb_journal.proofs.Lines.{by_last}
-use Rattle.nb_journal.proofs.Folds.{known_keys-nil, known_keys-snoc}
+use Rattle.nb_journal.proofs.Folds.{known_keys-snoc}
 
 -- keys that are told alike are one
 pub is_key-one : (a b : Key) → is_key a b ≡ true → a ≡ b

@@ -16,3 +16,5 @@ pub mod Totals
 pub mod Orders
 pub mod Bound
 pub mod Rows
+pub mod Queues
+pub mod Unique

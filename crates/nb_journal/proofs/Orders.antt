@@ -1,5 +1,5 @@
 -- The order of making has different keys, each of them present; so a pass takes different present keys.
-use Rattle.std.proofs.Common.{◌≡◌, ◌⊎◌, inl, inr, ⊎_elim, ℕ, ◌+◌, ◌-◌, ◌<◌, ◌≤◌, Bool, true, false, ◌||◌, ◌&&◌, not, is_some, nat_lt, if◌then◌else◌, List, [], ◌∷◌, ◌++◌, Option, Some, None, refl, sym, ◌∙◌, ap, subst, arith, append-nil}
+use Rattle.std.proofs.Common.{◌≡◌, ⊎_elim, ℕ, ◌-◌, Bool, true, false, ◌||◌, ◌&&◌, not, is_some, nat_lt, if◌then◌else◌, List, [], ◌∷◌, ◌++◌, Option, Some, None, refl, sym, ◌∙◌, ap, subst, arith, append-nil}
 use Rattle.std.specs.Prelude.{filter}
 use Rattle.std.specs.Option.{option_to_list}
 use Rattle.std.proofs.lemmas.Bool.{false≢true, false_from_ne_true, or_cases, and_parts, not-true}
@@ -21,8 +21,8 @@ use Rattle.nud_machine.specs.Send.{send_in}
 use Rattle.nud_machine.specs.Timer.{fire_in}
 use Rattle.nud_machine.specs.Step.{heard_as, arp_manner, ns_manner, na_manner, admin_manner, stamp, move, step}
 use Rattle.nb_journal.specs.Keys.{is_key, key_of, is_own}
-use Rattle.nb_journal.specs.Effect.{Effect, Passes, Refuses, Brings, effect, if_so}
-use Rattle.nb_journal.specs.Fold.{meet, change, state_of, is_present}
+use Rattle.nb_journal.specs.Effect.{Effect, Passes, Refuses, Brings, effect}
+use Rattle.nb_journal.specs.Fold.{meet, state_of, is_present}
 use Rattle.nb_journal.specs.Lawful.{is_collect, base_of, brings_event, made_by, making, order_after, making_order, collected}
 use Rattle.nb_journal.proofs.Changes.{is_key-same, change-named}
 use Rattle.nb_journal.proofs.Lines.{by_last, base_of-collect, base_of-other}

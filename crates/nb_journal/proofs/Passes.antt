@@ -1,5 +1,5 @@
 -- A lawful journal goes on by an operation's line behind its collects.
-use Rattle.std.proofs.Common.{◌≡◌, ℕ, ◌+◌, ◌<◌, ◌≤◌, Bool, true, false, ◌&&◌, is_some, nat_le, if◌then◌else◌, List, [], ◌∷◌, ◌++◌, Option, Some, None, refl, sym, ◌∙◌, ap, subst, arith, append_assoc, append-nil}
+use Rattle.std.proofs.Common.{◌≡◌, ℕ, ◌+◌, true, false, ◌&&◌, is_some, List, [], ◌∷◌, ◌++◌, Option, Some, None, refl, sym, ◌∙◌, ap, subst, append_assoc, append-nil}
 use Rattle.std.specs.Prelude.{map}
 use Rattle.std.proofs.lemmas.Bool.{cond_both}
 use Rattle.nb_base.specs.declared.key.Key.{Key}
@@ -10,7 +10,7 @@ use Rattle.nb_base.specs.declared.line.Line.{Line}
 use Rattle.nb_base.specs.Params.{InRange}
 use Rattle.nb_journal.specs.Keys.{key_of, is_own}
 use Rattle.nb_journal.specs.Fold.{present_count, state_of}
-use Rattle.nb_journal.specs.Lawful.{NothingDue, IsTimersTurn, PassesNoDue, base_of, made_by, making, is_pass_due, last_pass, making_order, is_collectable, collected, collect_line, collects, HasItsPass, full_of, IsLawful}
+use Rattle.nb_journal.specs.Lawful.{NothingDue, IsTimersTurn, PassesNoDue, base_of, made_by, making, is_pass_due, last_pass, making_order, is_collectable, collected, collect_line, collects, HasItsPass, full_of}
 use Rattle.nb_journal.specs.Laws.{GoesOnByOperation}
 use Rattle.nb_journal.proofs.Lines.{base_of-collect, base_of-other}
 use Rattle.nb_journal.proofs.Dues.{nothing_due-from}

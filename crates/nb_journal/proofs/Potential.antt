@@ -1,5 +1,5 @@
 -- Each timer lowers its entry's potential, and no potential is large.
-use Rattle.std.proofs.Common.{◌≡◌, ◌⊎◌, inl, inr, ⊎_elim, ℕ, ◌+◌, ◌-◌, ◌<◌, ◌≤◌, Bool, true, false, ◌||◌, ◌&&◌, not, is_some, nat_lt, nat_le, if◌then◌else◌, List, [], ◌∷◌, ◌++◌, Option, Some, None, refl, sym, ◌∙◌, ap, subst, arith}
+use Rattle.std.proofs.Common.{◌≡◌, ℕ, ◌+◌, ◌≤◌, Bool, true, false, ◌||◌, ◌&&◌, not, is_some, if◌then◌else◌, List, Option, Some, refl, sym, ◌∙◌, ap, arith}
 use Rattle.std.proofs.lemmas.Bool.{and_parts}
 use Rattle.nb_base.specs.declared.mac.Mac.{Mac}
 use Rattle.nb_base.specs.declared.key.Key.{Key}
@@ -13,13 +13,13 @@ use Rattle.nb_base.specs.Nud.{in_timer}
 use Rattle.nud_machine.specs.declared.entry.Entry.{Entry}
 use Rattle.nud_machine.specs.declared.event.Event.{Event}
 use Rattle.nud_machine.specs.declared.event.Event.TheVariants as event
-use Rattle.nud_machine.specs.State.{State, Stepped, absent, made}
+use Rattle.nud_machine.specs.State.{State, Stepped, made}
 use Rattle.nud_machine.specs.Update.{Manner, Rule, rule_for, update_by, router_by}
 use Rattle.nud_machine.specs.Send.{send_in}
 use Rattle.nud_machine.specs.Timer.{fire_in}
-use Rattle.nud_machine.specs.Step.{heard_as, arp_manner, ns_manner, na_manner, admin_manner, with_entry, stamp, move, step}
+use Rattle.nud_machine.specs.Step.{heard_as, arp_manner, ns_manner, na_manner, admin_manner, stamp, move, step}
 use Rattle.nb_journal.specs.Effect.{Effect, Passes, Refuses, Brings, effect}
-use Rattle.nb_journal.specs.Fold.{meet, change, state_of}
+use Rattle.nb_journal.specs.Fold.{meet, state_of}
 use Rattle.nb_journal.specs.Accounts.{timers_left, potential}
 use Rattle.nb_journal.proofs.Lines.{by_last}
 use Rattle.nb_journal.proofs.Folds.{state_of-nil, state_of-snoc}

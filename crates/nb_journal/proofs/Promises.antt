@@ -1,17 +1,15 @@
 -- The laws of journals, as they are promised.
-use Rattle.std.proofs.Common.{◌≡◌, ⊎_elim, ℕ, ◌+◌, ◌≤◌, true, List, [], ◌∷◌, ◌++◌, Some, None, refl, sym, ◌∙◌, ap, subst}
+use Rattle.std.proofs.Common.{◌≡◌, ⊎_elim, ℕ, ◌+◌, ◌≤◌, List, [], ◌∷◌, ◌++◌, Some, refl, ◌∙◌, ap}
 use Rattle.nb_base.specs.declared.key.Key.{Key}
 use Rattle.nb_base.specs.declared.params.Params.{Params}
 use Rattle.nb_base.specs.declared.line.Line.{Line}
 use Rattle.nud_machine.specs.declared.event.Event.TheVariants as event
-use Rattle.nud_machine.specs.State.{State, Stepped, absent}
-use Rattle.nud_machine.specs.Record.{record_of}
+use Rattle.nud_machine.specs.State.{Stepped}
 use Rattle.nud_machine.specs.Step.{step}
-use Rattle.nb_journal.specs.Fold.{change, state_of, meet}
-use Rattle.nb_journal.specs.Effect.{effect, if_so}
-use Rattle.nb_journal.specs.Lawful.{due_of, EachLine}
-use Rattle.nb_journal.specs.Accounts.{potential, timer_line, published}
-use Rattle.nb_journal.specs.Laws.{DuesLieAhead, SweepsCutInTwo, LawfulEarlier, CellsPublishStates, TimersLower}
+use Rattle.nb_journal.specs.Fold.{state_of}
+use Rattle.nb_journal.specs.Lawful.{due_of}
+use Rattle.nb_journal.specs.Accounts.{timer_line}
+use Rattle.nb_journal.specs.Laws.{DuesLieAhead, SweepsCutInTwo, CellsPublishStates, TimersLower}
 use Rattle.nb_journal.proofs.Changes.{is_key-same, change-named}
 use Rattle.nb_journal.proofs.Lines.{each-map}
 use Rattle.nb_journal.proofs.Folds.{state_of-snoc}

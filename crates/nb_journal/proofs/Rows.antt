@@ -1,5 +1,6 @@
 -- Worked journals, by computation: they test the definitions.
-use Rattle.std.proofs.Common.{◌≡◌, ℕ, Bool, true, false, List, [], ◌∷◌, ◌++◌, Option, Some, None, refl}
+use Rattle.std.proofs.Common.{◌≡◌, ℕ, true, false, is_some, List, [], ◌∷◌, ◌++◌, Some, None, refl, sym, ap, ◌∙◌, arith}
+use Rattle.std.proofs.lemmas.Bool.{false≢true}
 use Rattle.nb_base.specs.declared.mac.Mac.{Mac}
 use Rattle.nb_base.specs.declared.key.Key.{Key}
 use Rattle.nb_base.specs.declared.key.Key.TheVariants.{V4}
@@ -10,19 +11,16 @@ use Rattle.nb_base.specs.declared.params.Params.{Params}
 use Rattle.nb_base.specs.declared.op.Op.{Op}
 use Rattle.nb_base.specs.declared.op.Op.TheVariants as op
 use Rattle.nb_base.specs.declared.line.Line.{Line}
-use Rattle.nb_base.specs.declared.line.Reply.{Reply}
 use Rattle.nb_base.specs.declared.line.Reply.TheVariants as reply
 use Rattle.nb_base.specs.Params.{default_params}
-use Rattle.nud_machine.specs.declared.act.Act.TheVariants.{Transmit, Drop, SolicitGroup}
-use Rattle.nud_machine.specs.declared.act.Act.TheVariants as act
+use Rattle.nud_machine.specs.declared.act.Act.TheVariants.{Drop}
 use Rattle.nud_machine.specs.declared.act.Cause.TheVariants as cause
-use Rattle.nud_machine.specs.declared.entry.Entry.{Entry}
 use Rattle.nud_machine.specs.Record.{unusable}
 use Rattle.nb_journal.specs.Keys.{is_key}
 use Rattle.nb_journal.specs.Fold.{change, state_of, acts_of, known_keys, rank_of, present_count}
 use Rattle.nb_journal.specs.Reply.{reply_of}
-use Rattle.nb_journal.specs.Lawful.{due_of, before_sweep, sweep_line, base_of, last_pass, making_order, collects, collect_line, full_of}
-use Rattle.nb_journal.specs.Accounts.{Fate, Sent, Dropped, Waits, fates_of, published, total_potential, timer_line, line_bound}
+use Rattle.nb_journal.specs.Lawful.{IsLawful, due_of, before_sweep, sweep_line, last_pass, making_order, collects, collect_line, full_of}
+use Rattle.nb_journal.specs.Accounts.{Dropped, Waits, fates_of, published, total_potential, timer_line, line_bound}
 
 abbrev id : ℕ → OpId
 id n = record { 0 = n }
@@ -247,3 +245,48 @@ waiting_potential = refl
 
 bound_at_its_limit : line_bound default_params 262144 0 ≡ 4194305
 bound_at_its_limit = refl
+
+-- ---- damaged journals aren't lawful
+
+not_that : (m n : ℕ) → Some m ≡ Some n → m ≡ n
+not_that m n e = cc
+
+-- a timer at another moment than its due
+timer_elsewhere : IsLawful default_params (four_sends ++ timer_line 999 k1 ∷ []) 999 → ⊥
+timer_elsewhere h = let same = not_that 1000 999 (sym first_due ∙ h.orderly.timers.1.1.1.1.0.due) in omega (arith, same)
+
+-- of two timers of one moment the second key's goes first
+wrong_rank_first : IsLawful default_params (two_keys ++ timer_line 1000 k5 ∷ []) 1000 → ⊥
+wrong_rank_first h = let le = h.orderly.timers.1.1.0.first k7 tie in let a = first_rank in let b = second_rank in omega (arith, le, a, b)
+
+-- a moment that falls
+falling_moment : IsLawful default_params (own 5 33 (op.Send k7) ∷ own 4 65 (op.Send k5) ∷ []) 5 → ⊥
+falling_moment h = let le = h.orderly.moments.1.0 in omega (arith, le)
+
+-- `full` is missing
+must_be_full : full_of small three_present (own 0 129 (op.Send k14)) ≡ Some 3
+unfolding present_count state_of known_keys change is_key
+must_be_full = refl
+
+full_missing : IsLawful small (three_present ++ own 0 129 (op.Send k14) ∷ []) 0 → ⊥
+full_missing h = false≢true (ap is_some (h.orderly.full.1.1.1.0 ∙ must_be_full))
+
+-- a sweep is missing
+one_present : present_count one_low stale_at_0 ≡ 1
+unfolding present_count state_of known_keys change is_key
+one_present = refl
+
+sweep_missing : IsLawful one_low stale_at_0 30000 → ⊥
+sweep_missing h =
+    let one = one_present in
+    let has = (h.sweeps 30000 (0, refl) (omega arith)).1 (omega (arith, one)) in
+    let none : [] ≡ sweep_line 30000 ∷ has.0 = cc in
+    not_empty (sweep_line 30000) has.0 none where
+      not_empty : (x : Line) (xs : List Line) → [] ≡ x ∷ xs → ⊥
+      not_empty x xs e = cc
+
+-- a collect that no line asks for
+collect_too_many : IsLawful default_params (own 0 32 (op.Add k1 (Some mac_a) nud.Permanent) ∷ collect_line 0 k1 ∷ own 0 64 op.Show ∷ []) 0 → ⊥
+collect_too_many h = longer (own 0 32 (op.Add k1 (Some mac_a) nud.Permanent)) (collect_line 0 k1) h.orderly.passes.1.1.0 where
+  longer : (x y : Line) → x ∷ y ∷ [] ≡ x ∷ [] → ⊥
+  longer x y e = cc

@@ -1,5 +1,5 @@
 -- A step sets no due nearer than ten milliseconds from now.
-use Rattle.std.proofs.Common.{◌≡◌, ◌⊎◌, inl, inr, ⊎_elim, ℕ, ◌+◌, ◌≤◌, Bool, true, false, Option, Some, None, refl, sym, ◌∙◌, ap, subst, arith}
+use Rattle.std.proofs.Common.{◌≡◌, ◌⊎◌, inl, ℕ, ◌+◌, ◌≤◌, Bool, Option, Some, sym, ◌∙◌, arith}
 use Rattle.nb_base.specs.declared.mac.Mac.{Mac}
 use Rattle.nb_base.specs.declared.time.OpId.{OpId}
 use Rattle.nb_base.specs.declared.nud.Nud.{Nud}
@@ -13,7 +13,7 @@ use Rattle.nud_machine.specs.State.{State, Stepped}
 use Rattle.nud_machine.specs.Update.{Manner, Rule, rule_for, update_by, router_by}
 use Rattle.nud_machine.specs.Send.{send_in}
 use Rattle.nud_machine.specs.Timer.{fire_in}
-use Rattle.nud_machine.specs.Step.{heard_as, arp_manner, ns_manner, na_manner, admin_manner, with_entry, stamp, move, step}
+use Rattle.nud_machine.specs.Step.{heard_as, arp_manner, ns_manner, na_manner, admin_manner, stamp, move, step}
 
 -- a due that a step leaves is the old one or lies ahead
 abbrev pub Rises : ℕ → Option ℕ → Option ℕ → Type 0

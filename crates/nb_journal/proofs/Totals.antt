@@ -1,7 +1,7 @@
 -- What one line does to the sum of the potentials.
-use Rattle.std.proofs.Common.{◌≡◌, ◌⊎◌, inl, inr, ⊎_elim, ℕ, ◌+◌, ◌<◌, ◌≤◌, Bool, true, false, ◌||◌, ◌&&◌, not, is_some, if◌then◌else◌, List, [], ◌∷◌, ◌++◌, length, Option, Some, None, refl, sym, ◌∙◌, ap, subst, arith, append_assoc, append-nil}
+use Rattle.std.proofs.Common.{◌≡◌, ℕ, ◌+◌, ◌≤◌, Bool, true, false, ◌||◌, if◌then◌else◌, List, [], ◌∷◌, ◌++◌, length, Option, Some, None, refl, sym, ◌∙◌, ap, subst, arith, append_assoc, append-nil}
 use Rattle.std.specs.Prelude.{map}
-use Rattle.std.proofs.lemmas.Bool.{false≢true, or_cases}
+use Rattle.std.proofs.lemmas.Bool.{false≢true}
 use Rattle.nb_base.specs.declared.key.Key.{Key}
 use Rattle.nb_base.specs.declared.params.Params.{Params}
 use Rattle.nb_base.specs.declared.op.Op.{Op}
@@ -9,11 +9,11 @@ use Rattle.nb_base.specs.declared.op.Op.TheVariants as op
 use Rattle.nb_base.specs.declared.line.Line.{Line}
 use Rattle.nb_base.specs.Params.{InRange}
 use Rattle.nud_machine.specs.declared.event.Event.TheVariants as event
-use Rattle.nud_machine.specs.State.{State, Stepped, absent, made}
+use Rattle.nud_machine.specs.State.{State, Stepped, absent}
 use Rattle.nud_machine.specs.Step.{step}
-use Rattle.nb_journal.specs.Keys.{is_key, key_of, made_known, is_own}
+use Rattle.nb_journal.specs.Keys.{is_key, key_of, made_known}
 use Rattle.nb_journal.specs.Effect.{effect, if_so, is_loose, is_swept}
-use Rattle.nb_journal.specs.Fold.{meet, change, state_of, with_key, known_keys, is_present}
+use Rattle.nb_journal.specs.Fold.{meet, state_of, with_key, known_keys, is_present}
 use Rattle.nb_journal.specs.Lawful.{due_of, collect_line}
 use Rattle.nb_journal.specs.Accounts.{potential, sum_over, total_potential}
 use Rattle.nb_journal.proofs.Changes.{is_key-same, change-named, change-other}
@@ -21,7 +21,7 @@ use Rattle.nb_journal.proofs.Folds.{state_of-snoc, known_keys-snoc}
 use Rattle.nb_journal.proofs.Dues.{change-either}
 use Rattle.nb_journal.proofs.Grows.{is_key-one, has_key}
 use Rattle.nb_journal.proofs.Potential.{potential-most, state_of-timed, due-timed, timer-lowers}
-use Rattle.nb_journal.proofs.Counts.{AreDistinct, is_key-flip, known_keys-distinct, state_of-unknown, known-unless, sum_over-append, sum_over-less, sum_over-one, sum_over-lower}
+use Rattle.nb_journal.proofs.Counts.{AreDistinct, known_keys-distinct, state_of-unknown, known-unless, sum_over-append, sum_over-less, sum_over-one, sum_over-lower}
 
 -- a key's potential behind a journal
 abbrev pub number : Params → List Line → Key → ℕ

@@ -1,5 +1,5 @@
 -- What a journal comes to: the records that a key's cell publishes, the fate of each packet, and how many lines there can be (this project's own).
-use Rattle.std.specs.Prelude.{ℕ, ◌+◌, ◌-◌, ◌*◌, ◌/◌, Bool, true, false, ◌==◌, nat_le, nat_lt, if◌then◌else◌, List, [], ◌∷◌, ◌++◌, map, filter, length, Option, Some, None}
+use Rattle.std.specs.Prelude.{ℕ, ◌+◌, ◌-◌, ◌*◌, ◌/◌, Bool, false, ◌==◌, nat_le, nat_lt, if◌then◌else◌, List, [], ◌∷◌, ◌++◌, map, filter, length, Option, Some, None}
 use Rattle.std.specs.List.{flat_map, list_any}
 use Rattle.nb_base.specs.declared.mac.Mac.{Mac}
 use Rattle.nb_base.specs.declared.key.Key.{Key}
@@ -9,6 +9,7 @@ use Rattle.nb_base.specs.declared.nud.Nud.{Nud}
 use Rattle.nb_base.specs.declared.nud.Nud.TheVariants as nud
 use Rattle.nb_base.specs.declared.params.Params.{Params}
 use Rattle.nb_base.specs.declared.record.Record.{Record}
+use Rattle.nb_base.specs.declared.op.Op.{Op}
 use Rattle.nb_base.specs.declared.op.Op.TheVariants as op
 use Rattle.nb_base.specs.declared.line.Line.{Line}
 use Rattle.nud_machine.specs.declared.act.Act.{Act}
@@ -17,7 +18,9 @@ use Rattle.nud_machine.specs.declared.act.Cause.{Cause}
 use Rattle.nud_machine.specs.declared.entry.Entry.{Entry}
 use Rattle.nud_machine.specs.State.{State, absent}
 use Rattle.nud_machine.specs.Record.{record_of, same_record}
-use Rattle.nb_journal.specs.Keys.{is_own}
+use Rattle.nb_journal.specs.Keys.{is_key, is_own}
+use Rattle.nb_journal.specs.Effect.{id_of}
+use Rattle.nb_journal.specs.Lawful.{fold_lines}
 use Rattle.nb_journal.specs.Fold.{change, state_of, acts_of, known_keys}
 
 -- ---- published records
@@ -83,9 +86,35 @@ ends_behind p id past (line ∷ lines) = flat_map (fate_by_act (length past) id)
 abbrev pub is_waiting : Params → List Line → OpId → Bool
 is_waiting p journal id = list_any (λ key. list_any (is_id id) (state_of p journal key).waiting) (known_keys journal)
 
--- what a journal says of a packet: where it was sent, where it was dropped, and whether it waits; in a lawful journal whose sends have different ids it is one thing
+-- what a journal says of a packet: where it was sent, where it was dropped, and whether it waits
 unfoldable pub fates_of : Params → List Line → OpId → List Fate
 fates_of p journal id = ends_behind p id [] journal ++ (if is_waiting p journal id then Waits ∷ [] else [])
+
+-- the packet that an act ends: one that goes out or is dropped
+abbrev pub ended_by : Act → List OpId
+ended_by (act.Transmit id mac) = id ∷ []
+ended_by (act.Drop id cause) = id ∷ []
+ended_by (act.Wait id) = []
+ended_by act.SolicitGroup = []
+ended_by (act.SolicitUnicast mac) = []
+
+-- the packets that acts end, in order
+abbrev pub ended : List Act → List OpId
+ended [] = []
+ended (a ∷ acts) = ended_by a ++ ended acts
+
+-- the packet that a line sends to a key
+abbrev pub sent_by : Line → Key → Op → List OpId
+sent_by line key (op.Send named) = if is_key named key then id_of line ∷ [] else []
+sent_by line key _ = []
+
+-- the packets that were sent to a key, in the order of their lines
+abbrev pub sends_to : List Line → Key → List OpId
+sends_to journal key = flat_map (λ line. sent_by line key line.op) journal
+
+-- those of a key that have gone out or been dropped, in the order in which they did
+unfoldable pub ended_of : Params → List Line → Key → List OpId
+ended_of p journal key = fold_lines (λ ids past line. ids ++ ended (acts_of p past line key)) [] [] journal
 
 -- ---- the line bound
 

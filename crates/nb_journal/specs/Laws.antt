@@ -1,19 +1,18 @@
 -- The laws of journals, as statements of every journal.
-use Rattle.std.specs.Prelude.{◌≡◌, ℕ, ◌+◌, ◌<◌, ◌≤◌, Bool, true, is_some, List, [], ◌∷◌, ◌++◌, length, Option, Some, None}
+use Rattle.std.specs.Prelude.{◌≡◌, ℕ, ◌+◌, ◌<◌, ◌≤◌, true, is_some, List, [], ◌∷◌, ◌++◌, length, Some}
 use Rattle.std.specs.List.{list_any}
 use Rattle.nb_base.specs.declared.key.Key.{Key}
 use Rattle.nb_base.specs.declared.host.Host.{Host}
 use Rattle.nb_base.specs.declared.params.Params.{Params}
-use Rattle.nb_base.specs.declared.record.Record.{Record}
 use Rattle.nb_base.specs.declared.line.Line.{Line}
 use Rattle.nb_base.specs.Params.{InRange}
 use Rattle.nud_machine.specs.declared.entry.Entry.{Entry}
 use Rattle.nud_machine.specs.State.{absent_entry}
-use Rattle.nud_machine.specs.Record.{record_of, same_record}
+use Rattle.nud_machine.specs.Record.{record_of}
 use Rattle.nb_journal.specs.Keys.{is_key, is_own}
 use Rattle.nb_journal.specs.Fold.{state_of, known_keys, rank_of}
-use Rattle.nb_journal.specs.Lawful.{last_moment, due_of, IsNextDue, IsSweepMoment, before_sweep, IsCrowded, collects, full_of, IsLawful, IsBrokenOff}
-use Rattle.nb_journal.specs.Accounts.{ends_with, with_record, published, potential, timer_line, own_lines, line_bound}
+use Rattle.nb_journal.specs.Lawful.{last_moment, due_of, before_sweep, collects, full_of, IsLawful, IsBrokenOff}
+use Rattle.nb_journal.specs.Accounts.{ends_with, with_record, published, potential, sends_to, ended_of, timer_line, own_lines, line_bound}
 
 -- the keys that a journal knows are the first of those that a longer one knows
 abbrev pub KeysGrow : Type 0
@@ -95,3 +94,17 @@ BrokenOffInBound =
     → clock ≤ moment
     → length (own_lines journal) ≤ operations
     → length journal < line_bound p operations moment
+
+-- in a lawful journal the packets to a key end in the order of their sends, each once: those that have gone out or been dropped, and then those that wait, are those that were sent
+abbrev pub PacketsLeaveInOrder : Type 0
+PacketsLeaveInOrder = (p : Params) (journal : List Line) (clock : ℕ) (key : Key) → IsLawful p journal clock → sends_to journal key ≡ ended_of p journal key ++ (state_of p journal key).waiting
+
+-- two journals that are lawful at one clock and have the same operations' lines are one
+abbrev pub LawfulAreOne : Type 0
+LawfulAreOne =
+    (p : Params) (journal other : List Line) (clock : ℕ)
+    → InRange p
+    → IsLawful p journal clock
+    → IsLawful p other clock
+    → own_lines journal ≡ own_lines other
+    → journal ≡ other

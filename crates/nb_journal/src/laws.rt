@@ -1,5 +1,5 @@
 //! The laws of journals. Each function does nothing: its contract is the law.
-ghost use Rattle.nb_journal.specs.Laws.{KeysGrow, RanksStay, DuesLieAhead, SweepsCutInTwo, EmptyIsLawful, LawfulEarlier, GoesOnByOperation, CellsPublishStates, TimersLower, PotentialsAreSmall, LawfulInBound, BrokenOffInBound};
+ghost use Rattle.nb_journal.specs.Laws.{KeysGrow, RanksStay, DuesLieAhead, SweepsCutInTwo, EmptyIsLawful, LawfulEarlier, GoesOnByOperation, CellsPublishStates, TimersLower, PotentialsAreSmall, LawfulInBound, BrokenOffInBound, PacketsLeaveInOrder, LawfulAreOne};
 
 /// The keys that a journal knows are the first of those that a longer one knows, and each keeps its rank.
 pub fn known_keys_only_grow()
@@ -43,4 +43,14 @@ pub fn timers_lower_potentials()
 pub fn journals_stay_in_bound()
     ensures lawful { LawfulInBound }
     ensures broken_off { BrokenOffInBound }
+{}
+
+/// Packets to a key leave its queue in the order of their sends, each once: those that have gone out or been dropped, and then those that wait, are those that were sent.
+pub fn packets_leave_in_order()
+    ensures { PacketsLeaveInOrder }
+{}
+
+/// Two journals that are lawful at one clock and have the same operations' lines are one.
+pub fn lawful_journals_are_one()
+    ensures { LawfulAreOne }
 {}

@@ -1,0 +1,38 @@
+use Rattle.std.proofs.Common.{◌≡◌, ℕ, ◌+◌, ◌-◌, ◌<◌, ◌≤◌, true, List, ◌∷◌, [], ◌++◌, map, length, Some, refl, sym, ap, ◌∙◌, subst, arith}
+use Rattle.hh_core.specs.declared.step.Step.TheVariants as step
+use Rattle.hh_core.specs.declared.step.Writer.{Writer}
+use Rattle.hh_core.specs.declared.step.Writer.TheVariants.{Idle, Begun, WroteA, WroteB}
+use Rattle.hh_core.specs.declared.reader.Reader.{Reader}
+use Rattle.hh_core.specs.declared.reader.Phase.{Phase}
+use Rattle.hh_core.specs.declared.reader.Phase.TheVariants.{Rest, HasFirst, HasA, HasB}
+use Rattle.std.specs.List.{All}
+use Rattle.std.proofs.lemmas.List.Elements.{All-set, All-weaker, AllWithin-more_set}
+use Rattle.std.proofs.Math.Seq.{map-set_same}
+use Rattle.hh_core.specs.State.{State, ReaderState, last_number, phase_of, change_at}
+use Rattle.hh_core.specs.Step.{is_idle, wrote_b, rests, has_first, has_a, has_b, ends, to_phase, to_floor, ends_try}
+use Rattle.hh_core.specs.Shown.{Shown, reader_state, HasRoom}
+use Rattle.hh_core.specs.declared.lock.Core.TheInside.{Inside}
+use Rattle.hh_core.specs.Lock.{state_in}
+use Rattle.hh_core.proofs.Slots.{map-set-change, change_load_a, change_load_b, change_second, HasRoom-less, room_found, phase_known}
+use Rattle.hh_core.proofs.Taken.{Moves, takes, safe_next, both_true}
+use Rattle.hh_core.proofs.lock.Core.end.Goals as goal
+
+pub invariant_of-self : goal.invariant_of-self
+invariant_of-self c =
+    let next : Inside = record c.self.inside { number = c.self.inside.number + 1; published = c.push_reserved.new.self; writer = Idle; spare = c.self.inside.spare - 1 } in
+    let s : State = state_in c.self.inside in
+    let pushed = ap (λ (p : List (ℕ × ℕ)). (let made : State = record { number = s.number + 1; a = s.a; b = s.b; published = p; writer = Idle; readers = s.readers } in made)) c.push_reserved.ensures.items in
+    let m : Moves step.End c.self.inside next = record { enabled = ap wrote_b c.in-WroteB.is; state = pushed ∙ ap (λ (w : Writer). ends w s) (sym c.in-WroteB.is) } in
+    let some : 0 < c.self.inside.spare = omega (arith, c.requires.spare, ap (λ (o : Shown). o.spare) c.self.view_is) in
+    record {
+      safe = safe_next _ c.self.inside next m c.self.invariant;
+      published = omega (arith, some, c.self.invariant.published, c.push_reserved.ensures.len, c.push_reserved.ensures.capacity);
+      readers = All-weaker (HasRoom c.self.inside.spare) (HasRoom (c.self.inside.spare - 1)) (HasRoom-less c.self.inside.spare (c.self.inside.spare - 1) (omega arith)) c.self.inside.readers.items c.self.invariant.readers;
+    }
+
+pub returns : goal.returns
+returns c =
+    let next : Inside = record c.self.inside { number = c.self.inside.number + 1; published = c.push_reserved.new.self; writer = Idle; spare = c.self.inside.spare - 1 } in
+    let s : State = state_in c.self.inside in
+    let pushed = ap (λ (p : List (ℕ × ℕ)). (let made : State = record { number = s.number + 1; a = s.a; b = s.b; published = p; writer = Idle; readers = s.readers } in made)) c.push_reserved.ensures.items in
+    takes step.End c.self.inside next c.args.self.now c.self.view_is c.self.invariant (record { enabled = ap wrote_b c.in-WroteB.is; state = pushed ∙ ap (λ (w : Writer). ends w s) (sym c.in-WroteB.is) }) (omega arith) (omega arith)

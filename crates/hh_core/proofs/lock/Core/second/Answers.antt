@@ -1,0 +1,33 @@
+use Rattle.std.proofs.Common.{◌≡◌, ℕ, ◌+◌, ◌-◌, ◌<◌, ◌≤◌, true, List, ◌∷◌, [], ◌++◌, map, length, Some, refl, sym, ap, ◌∙◌, subst, arith}
+use Rattle.hh_core.specs.declared.step.Step.TheVariants as step
+use Rattle.hh_core.specs.declared.step.Writer.{Writer}
+use Rattle.hh_core.specs.declared.step.Writer.TheVariants.{Idle, Begun, WroteA, WroteB}
+use Rattle.hh_core.specs.declared.reader.Reader.{Reader}
+use Rattle.hh_core.specs.declared.reader.Phase.{Phase}
+use Rattle.hh_core.specs.declared.reader.Phase.TheVariants.{Rest, HasFirst, HasA, HasB}
+use Rattle.std.specs.List.{All}
+use Rattle.std.proofs.lemmas.List.Elements.{All-set, All-weaker, AllWithin-more_set}
+use Rattle.std.proofs.Math.Seq.{map-set_same}
+use Rattle.hh_core.specs.State.{State, ReaderState, last_number, phase_of, change_at}
+use Rattle.hh_core.specs.Step.{is_idle, wrote_b, rests, has_first, has_a, has_b, ends, to_phase, to_floor, ends_try}
+use Rattle.hh_core.specs.Shown.{Shown, reader_state, HasRoom}
+use Rattle.hh_core.specs.declared.lock.Core.TheInside.{Inside}
+use Rattle.hh_core.specs.Lock.{state_in}
+use Rattle.hh_core.proofs.Slots.{map-set-change, change_load_a, change_load_b, change_second, HasRoom-less, room_found, phase_known}
+use Rattle.hh_core.proofs.Taken.{Moves, takes, safe_next, both_true}
+use Rattle.hh_core.proofs.lock.Core.second.Goals as goal
+
+pub invariant_of-self : goal.invariant_of-self
+invariant_of-self c =
+    let next : Inside = record c.self.inside { readers = c.end_try.new.readers; spare = c.self.inside.spare - 1 } in
+    let s : State = state_in c.self.inside in
+    let is = phase_known c.in-Some-HasB.field-0 (HasB c.in-Some-HasB.first c.in-Some-HasB.x c.in-Some-HasB.y) c.self.inside.readers.items c.deref.result.now c.args.reader c.in-Some-HasB.field-0-is c.deref.ensures.value c.in-Some-HasB.ensures.phase in
+    let m : Moves (step.Second c.args.reader) c.self.inside next = record { enabled = ap has_b is; state = ap (λ (rs : List ReaderState). (let made : State = record s { readers = rs } in made)) (c.end_try.ensures.changed ∙ change_second s.readers c.args.reader c.in-Some-HasB.first c.in-Some-HasB.x c.in-Some-HasB.y s.number is) } in
+    record { safe = safe_next _ c.self.inside next m c.self.invariant; published = omega (arith, c.self.invariant.published); readers = let some : 0 < c.self.inside.spare = omega (arith, c.requires, ap (λ (o : Shown). o.spare) c.self.view_is) in c.end_try.ensures.room (c.self.inside.spare - 1) (All-weaker (HasRoom c.self.inside.spare) (HasRoom (c.self.inside.spare - 1 + 1)) (HasRoom-less c.self.inside.spare (c.self.inside.spare - 1 + 1) (omega arith)) c.self.inside.readers.items c.self.invariant.readers) }
+
+pub returns : goal.returns
+returns c =
+    let next : Inside = record c.self.inside { readers = c.end_try.new.readers; spare = c.self.inside.spare - 1 } in
+    let s : State = state_in c.self.inside in
+    let is = phase_known c.in-Some-HasB.field-0 (HasB c.in-Some-HasB.first c.in-Some-HasB.x c.in-Some-HasB.y) c.self.inside.readers.items c.deref.result.now c.args.reader c.in-Some-HasB.field-0-is c.deref.ensures.value c.in-Some-HasB.ensures.phase in
+    takes (step.Second c.args.reader) c.self.inside next c.args.self.now c.self.view_is c.self.invariant (record { enabled = ap has_b is; state = ap (λ (rs : List ReaderState). (let made : State = record s { readers = rs } in made)) (c.end_try.ensures.changed ∙ change_second s.readers c.args.reader c.in-Some-HasB.first c.in-Some-HasB.x c.in-Some-HasB.y s.number is) }) (omega arith) (omega arith)

@@ -1,0 +1,7 @@
+pub mod Words
+pub mod Ones
+pub mod Walk
+pub mod Short
+pub mod FirstFailed
+pub mod Written
+pub mod Grammar

@@ -1,0 +1,10 @@
+pub mod Fields
+pub mod Moments
+pub mod Steps
+pub mod Walk
+pub mod Again
+pub mod HeaderLaws
+pub mod Whole
+pub mod Loop
+pub mod Written
+pub mod Unique

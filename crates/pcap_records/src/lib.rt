@@ -1,0 +1,18 @@
+//! Classic capture files (draft-ietf-opsawg-pcap, version 2.4): read as records that name places within the file, and written.
+#![tactic(auto)]
+
+mod capture;
+mod clock;
+mod fail;
+mod form;
+mod header;
+mod reading;
+mod writing;
+
+pub use capture::{Capture, Frame, Rec};
+pub use fail::CaptureFail;
+pub use reading::read;
+pub use writing::write;
+
+#[cfg(test)]
+mod tests;
