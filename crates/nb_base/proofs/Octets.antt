@@ -12,10 +12,8 @@ use Rattle.std.proofs.lemmas.Fmt.{decimal_is_IsNumeral, length-decimal-le, first
 use Rattle.std.proofs.lemmas.List.Elements.{All-cons, All-nil}
 use Rattle.std.proofs.lemmas.Nat.{be_bytes_4, from_be_bytes-to_be_bytes_4}
 use Rattle.std.proofs.lemmas.Str.Parse.{digit_from_value}
-use Rattle.nb_base.specs.declared.key.Key.{Key}
-use Rattle.nb_base.specs.declared.key.Key.TheVariants.{V4, V6}
 use Rattle.nb_base.specs.Parts.{parts_spelled, number_of, is_plain, octet_of}
-use Rattle.nb_base.specs.Address.{IsIp4Text, IsKeyText, ip4_of, ip4_text}
+use Rattle.nb_base.specs.Address.{IsIp4Text, ip4_of, ip4_text}
 use Rattle.nb_base.proofs.Joined.{Lacks, Shuns, found_parts, joined_parts}
 
 -- what a test lets through
@@ -87,11 +85,6 @@ ip4_found text values n e number =
 -- an address that a text spells is read of it
 pub ip4_of-only : (text : List ℕ) (n : ℕ) → IsIp4Text text n → ip4_of text ≡ Some n
 ip4_of-only text n h = rw (joined_parts octet_of 4 46 (omega arith) octet-shuns text (to_be_bytes w32 n) h.0 refl) (ap (λ (m : ℕ). Some m) (from_be_bytes-to_be_bytes_4 n h.1))
-
--- a key that a text spells is the one of its IPv4 address
-pub key-only : (text : List ℕ) (n : ℕ) (key : Key) → ((m : ℕ) → IsIp4Text text m → ◌≡◌ {A = Option ℕ} (Some n) (Some m)) → IsKeyText text key → ◌≡◌ {A = Option Key} (Some (V4 n)) (Some key)
-key-only text n (V4 m) only h = (let e = only m h in cc)
-key-only text n (V6 m) only h = absurd h
 
 digit-is : (b : ℕ) → digit_value b < 10 → is_ascii_digit b ≡ true
 digit-is b lt = grind (arith, nat_tests, digit_from_value b lt)

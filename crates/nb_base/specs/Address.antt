@@ -1,6 +1,6 @@
 -- Addresses, as texts, and which addresses are neighbours'.
 use Rattle.std.specs.Prelude.{◌≡◌, ◌<◌, ◌^◌, length, ℕ, Bool, false, ◌&&◌, not, ◌==◌, nat_lt, List, map, Option, Some, None, decimal}
-use Rattle.std.specs.Option.{option_map}
+use Rattle.std.specs.Option.{option_map, option_or}
 use Rattle.std.specs.Int.{w32, w128, to_be_bytes, from_be_bytes}
 use Rattle.std.specs.List.{join_with_byte}
 use Rattle.std.specs.Net.Addr.{segments_of}
@@ -9,6 +9,7 @@ use Rattle.nb_base.specs.declared.mac.Mac.{Mac}
 use Rattle.nb_base.specs.declared.key.Key.{Key}
 use Rattle.nb_base.specs.declared.key.Key.TheVariants.{V4, V6}
 use Rattle.nb_base.specs.declared.host.Host.{Host}
+use Rattle.nb_base.specs.Ip6.{IsIp6Text, ip6_of}
 use Rattle.nb_base.specs.Parts.{IsJoined, parts_spelled, hex_byte_of, octet_of, hex_pair}
 
 -- a link address is spelled by six parts of one or two hexadecimal digits of either case joined by `:` (this project's own reading of the usual form)
@@ -35,14 +36,14 @@ ip4_of text = option_map (from_be_bytes w32) (parts_spelled octet_of 4 46 text)
 abbrev pub ip4_text : ℕ → List ℕ
 ip4_text n = join_with_byte 46 (map decimal (to_be_bytes w32 n))
 
--- a key is spelled as an address of its family (no IPv6 text is read yet)
+-- a key is spelled as an address of its family
 abbrev pub IsKeyText : List ℕ → Key → Type 0
 IsKeyText text (V4 n) = IsIp4Text text n
-IsKeyText text (V6 n) = ⊥
+IsKeyText text (V6 n) = IsIp6Text text n
 
 -- the key that a text spells
 abbrev pub key_of : List ℕ → Option Key
-key_of text = option_map V4 (ip4_of text)
+key_of text = option_or (option_map V4 (ip4_of text)) (option_map V6 (ip6_of text))
 
 -- the one written form; for IPv6 that of RFC 5952 section 4, always in hexadecimal groups
 abbrev pub key_text : Key → List ℕ

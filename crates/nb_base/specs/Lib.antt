@@ -4,3 +4,8 @@ pub mod Name
 pub mod NameLaws
 pub mod Address
 pub mod Params
+pub mod Usable
+pub mod Words
+pub mod Buckets
+pub mod Ip6
+pub mod Written

@@ -22,7 +22,7 @@ mod time;
 pub use host::Host;
 pub use host_line::{Class, HostLine, Mark, Placed};
 pub use items::Items;
-pub use key::{Key, is_neighbour, read_ip4, read_key, write_key};
+pub use key::{Key, bucket_of, is_neighbour, read_ip4, read_ip6, read_key, write_key};
 pub use line::{Journal, Journals, Lengths, Line, Reply};
 pub use mac::{Mac, hex_digit, read_mac, write_mac};
 pub use name::Name;

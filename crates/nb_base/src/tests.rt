@@ -1,6 +1,7 @@
 use crate::{
-    Host, Items, Key, Mac, Moment, Name, Nud, OpId, Params, cut, hex_digit, is_neighbour,
-    read_hex_digit, read_ip4, read_key, read_mac, read_number, write_key, write_mac,
+    Host, Items, Key, Mac, Moment, Name, Nud, OpId, Params, Record, bucket_of, cut, hex_digit,
+    is_neighbour, read_hex_digit, read_ip4, read_ip6, read_key, read_mac, read_number, write_key,
+    write_mac,
 };
 use std::test::Fail;
 
@@ -39,7 +40,7 @@ fn link_addresses_in_and_out(rt: HostRuntime) -> Result<(), Fail> {
 }
 
 #[test]
-fn keys_in_and_out(rt: HostRuntime) -> Result<(), Fail> {
+fn ip4_texts(rt: HostRuntime) -> Result<(), Fail> {
     let read = [
         ("10.0.0.1", 0x0a00_0001),
         ("0.0.0.0", 0),
@@ -67,6 +68,56 @@ fn keys_in_and_out(rt: HostRuntime) -> Result<(), Fail> {
     ] {
         assert_eq!(rt; read_key(text.as_bytes()), None, "at {text}");
     }
+    Ok(())
+}
+
+#[test]
+fn ip6_texts(rt: HostRuntime) -> Result<(), Fail> {
+    let read = [
+        (
+            "FE80:0:0:0:0:0:0:1",
+            0xfe80_0000_0000_0000_0000_0000_0000_0001,
+        ),
+        ("fe80::1", 0xfe80_0000_0000_0000_0000_0000_0000_0001),
+        ("::", 0),
+        ("::0001", 1),
+        ("1::", 0x0001_0000_0000_0000_0000_0000_0000_0000),
+        ("1:2:3:4:5:6:7::", 0x0001_0002_0003_0004_0005_0006_0007_0000),
+        ("1:2:3::5:6:7:8", 0x0001_0002_0003_0000_0005_0006_0007_0008),
+        ("0::0:aBc:0", 0x0abc_0000),
+    ];
+    for (text, address) in read {
+        assert_eq!(rt; read_ip6(text.as_bytes()), Some(address), "at {text}");
+        assert_eq!(rt;
+            read_key(text.as_bytes()),
+            Some(Key::V6(address)),
+            "at {text}"
+        );
+    }
+    for text in [
+        ":",
+        ":::",
+        "1::2::3",
+        "fe80::1%eth0",
+        "1:2:3:4:5:6:7",
+        "1:2:3:4:5:6:7:8:9",
+        "1:2:3:4::5:6:7:8",
+        ":1:2:3:4:5:6:7:8",
+        "1:2:3:4:5:6:7:8:",
+        "12345::",
+        "fe80::g",
+        "::10.0.0.1",
+        "1:2:3:4:5:6:10.0.0.1",
+        "[::1]",
+        " ::1",
+    ] {
+        assert_eq!(rt; read_key(text.as_bytes()), None, "at {text}");
+    }
+    Ok(())
+}
+
+#[test]
+fn written_keys(rt: HostRuntime) -> Result<(), Fail> {
     let written = [
         (Key::V4(0x0a00_0001), "10.0.0.1"),
         (Key::V6(0), "::"),
@@ -78,6 +129,18 @@ fn keys_in_and_out(rt: HostRuntime) -> Result<(), Fail> {
             Key::V6(0x2001_0db8_0000_0000_0001_0000_0000_0001),
             "2001:db8::1:0:0:1",
         ),
+        (
+            Key::V6(0x2001_0000_0000_0001_0000_0000_0000_0001),
+            "2001:0:0:1::1",
+        ),
+        (
+            Key::V6(0x2001_0db8_0000_0001_0001_0001_0001_0001),
+            "2001:db8:0:1:1:1:1:1",
+        ),
+        (
+            Key::V6(0xabc0_0001_0000_0000_0000_0000_0000_0000),
+            "abc0:1::",
+        ),
         (Key::V6(0xffff_0a00_0001), "::ffff:a00:1"),
     ];
     for (key, text) in written {
@@ -86,13 +149,14 @@ fn keys_in_and_out(rt: HostRuntime) -> Result<(), Fail> {
             text.as_bytes(),
             "at {text}"
         );
+        assert_eq!(rt; read_key(text.as_bytes()), Some(key), "at {text}");
     }
     Ok(())
 }
 
 #[test]
 fn neighbours_of_a_host(rt: HostRuntime) -> Result<(), Fail> {
-    let host = Host {
+    let mut host = Host {
         dev: Name::read(b"eth0").ok_or("a name")?,
         mac: Mac([2, 0, 0, 0, 0, 2]),
         ip4: Some(0x0a00_0002),
@@ -104,7 +168,20 @@ fn neighbours_of_a_host(rt: HostRuntime) -> Result<(), Fail> {
         (Key::V4(0), false),
         (Key::V4(0xdfff_ffff), true),
         (Key::V4(0xe000_0000), false),
+        (Key::V4(0xf000_0001), false),
         (Key::V6(1), false),
+    ];
+    for (key, wanted) in cases {
+        assert_eq!(rt; is_neighbour(&host, &key), wanted, "at {key}");
+    }
+    host.ip4 = None;
+    host.ip6 = Some(0xfe80_0000_0000_0000_0000_0000_0000_0002);
+    let cases = [
+        (Key::V6(0xfe80_0000_0000_0000_0000_0000_0000_0001), true),
+        (Key::V6(0xfe80_0000_0000_0000_0000_0000_0000_0002), false),
+        (Key::V6(0), false),
+        (Key::V6(0xff02_0000_0000_0000_0000_0000_0000_0001), false),
+        (Key::V4(0x0a00_0001), false),
     ];
     for (key, wanted) in cases {
         assert_eq!(rt; is_neighbour(&host, &key), wanted, "at {key}");
@@ -187,5 +264,34 @@ fn items_in_their_order(rt: HostRuntime) -> Result<(), Fail> {
     assert_eq!(rt; items.get(1).copied(), Some(9));
     assert_eq!(rt; items.as_slice(), [7, 9].as_slice());
     assert!(rt; !items.is_empty());
+    Ok(())
+}
+
+#[test]
+fn records_as_words(rt: HostRuntime) -> Result<(), Fail> {
+    let header = [0, 0x11, 0x22, 0x33, 0x44, 0x55, 2, 0, 0, 0, 0, 2, 8, 0];
+    let (a, b) = (0x0011_2233_4455_0200, 0x0000_0002_0800_0000);
+    for (usable, last) in [(true, 0x100), (false, 0)] {
+        let record = Record { usable, header };
+        assert_eq!(rt; record.words(), (a, b + last), "at {last}");
+        assert_eq!(rt; Record::of_words(a, b + last), Some(record), "at {last}");
+    }
+    for last in [1, 0x101, 0x200, 0xff00] {
+        assert_eq!(rt; Record::of_words(a, b + last), None, "at {last}");
+    }
+    Ok(())
+}
+
+#[test]
+fn buckets_of_keys(rt: HostRuntime) -> Result<(), Fail> {
+    let key = Key::V4(0x0a00_00c1);
+    assert_eq!(rt;
+        (bucket_of(&key, 1), bucket_of(&key, 2), bucket_of(&key, 64)),
+        (0, 1, 1)
+    );
+    assert_eq!(rt;
+        bucket_of(&Key::V6(0xfe80_0000_0000_0000_0000_0000_0000_01ff), 16),
+        15
+    );
     Ok(())
 }
