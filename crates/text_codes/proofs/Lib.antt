@@ -1,0 +1,11 @@
+pub mod Lacking
+pub mod Fronts
+pub mod Again
+pub mod Combining
+pub mod Numerals
+pub mod HexPairs
+pub mod Listing
+pub mod CodeRows
+pub mod Samples
+pub mod Uses
+pub mod Each
