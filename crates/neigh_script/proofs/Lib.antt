@@ -1,0 +1,13 @@
+pub mod NextWord
+pub mod OptionSteps
+pub mod Utf8
+pub mod CutLine
+pub mod LineSteps
+pub mod Above
+pub mod WrittenFields
+pub mod WrittenSigns
+pub mod WrittenForms
+pub mod WrittenLines
+pub mod WrittenRows
+pub mod WrittenScripts
+pub mod WrittenSamples

@@ -1,0 +1,6 @@
+use Rattle.text_codes.specs.Lines.{is_blank}
+use Rattle.neigh_script.proofs.NextWord.{place_or_len}
+use Rattle.neigh_script.proofs.words.word_len.Goals as goal
+
+pub returns-clause-value : goal.returns-clause-value
+returns-clause-value c = rw (c.unwrap_or.ensures, c.find_blank.ensures) (place_or_len is_blank c.args.text.now)

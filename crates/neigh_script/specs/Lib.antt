@@ -1,0 +1,9 @@
+pub mod Why
+pub mod Reading
+pub mod Parameter
+pub mod Fields
+pub mod Forms
+pub mod Context
+pub mod Lines
+pub mod Written
+pub mod Limits
