@@ -1,6 +1,6 @@
 -- What one reader's step keeps of that reader, and what the writer's steps keep of every reader.
-use Rattle.std.proofs.Common.{◌≡◌, ◌≢◌, ℕ, ◌+◌, ◌-◌, ◌*◌, ◌/◌, ◌%◌, ◌<◌, ◌≤◌, Bool, true, false, if◌then◌else◌, List, [], ◌∷◌, ◌++◌, length, map, Option, Some, None, refl, sym, ap, ◌∙◌, subst, arith, length-append, append_assoc, IsSomeAnd, IfSome, IsTrue}
-use Rattle.std.specs.List.{All, slice_get}
+use Rattle.std.proofs.Common.{◌≡◌, ℕ, ◌+◌, ◌*◌, ◌/◌, ◌%◌, ◌<◌, ◌≤◌, Bool, true, false, if◌then◌else◌, List, [], ◌∷◌, ◌++◌, length, map, Option, Some, None, refl, sym, ap, ◌∙◌, subst, arith, IsSomeAnd}
+use Rattle.std.specs.List.{slice_get}
 use Rattle.std.proofs.lemmas.List.{append-nil, map-append}
 use Rattle.std.proofs.lemmas.List.Elements.{All-push, All-weaker}
 use Rattle.std.proofs.lemmas.Option.{same_Some}
@@ -11,7 +11,7 @@ use Rattle.hh_core.specs.declared.reader.Phase.{Phase}
 use Rattle.hh_core.specs.declared.reader.Phase.TheVariants.{Rest, HasFirst, HasA, HasB}
 use Rattle.hh_core.specs.State.{State, ReaderState, last_number, phase_of}
 use Rattle.hh_core.specs.Step.{is_good, is_idle, to_phase, loads_a, loads_b, tries_once, learns, ends_try}
-use Rattle.hh_core.specs.Safe.{RisesTo, IsWritten, IsReading, IsFirstWithin, HoldsPair, HoldsWords, KnowsPublished, TriesRise, both_numbers, in_hand, words_in, IsSafe}
+use Rattle.hh_core.specs.Safe.{RisesTo, IsWritten, IsReading, IsFirstWithin, HoldsPair, KnowsPublished, TriesRise, both_numbers, in_hand, words_in}
 use Rattle.hh_core.proofs.Lists.{slice_get-grown, RisesTo-push, RisesTo-more}
 
 -- the phase of the reader that is found

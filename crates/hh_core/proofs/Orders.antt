@@ -1,6 +1,6 @@
 -- What holds over every order of the steps.
-use Rattle.std.proofs.Common.{◌≡◌, ℕ, zero, suc, ◌+◌, ◌-◌, ◌*◌, ◌/◌, ◌%◌, ◌<◌, ◌≤◌, Bool, true, false, ◌&&◌, if◌then◌else◌, List, [], ◌∷◌, ◌++◌, length, Option, Some, None, refl, sym, ap, ◌∙◌, subst, arith, length-append, IsTrue}
-use Rattle.std.specs.List.{All, slice_get}
+use Rattle.std.proofs.Common.{◌≡◌, ℕ, zero, suc, ◌+◌, ◌/◌, ◌≤◌, Bool, true, false, ◌&&◌, if◌then◌else◌, List, [], ◌∷◌, length, Option, Some, None, refl, arith, length-append, IsTrue}
+use Rattle.std.specs.List.{slice_get}
 use Rattle.std.proofs.lemmas.Bool.{false≢true}
 use Rattle.std.proofs.lemmas.List.Elements.{All-nil, All-replicate}
 use Rattle.std.proofs.lemmas.List.Sorted.{IsNonDecreasingBy-short}
@@ -10,10 +10,10 @@ use Rattle.hh_core.specs.declared.step.Writer.{Writer}
 use Rattle.hh_core.specs.declared.step.Writer.TheVariants.{Idle, Begun, WroteA, WroteB}
 use Rattle.hh_core.specs.declared.reader.Phase.{Phase}
 use Rattle.hh_core.specs.declared.reader.Phase.TheVariants.{Rest, HasFirst, HasA, HasB}
-use Rattle.hh_core.specs.State.{State, ReaderState, at_first, fresh_reader, last_number, phase_of, change_at}
-use Rattle.hh_core.specs.Step.{is_good, is_idle, has_begun, wrote_a, wrote_b, rests, has_first, has_a, has_b, allowed, stores_a, stores_b, ends, to_phase, to_floor, tries_once, learns, ends_try, after, run}
+use Rattle.hh_core.specs.State.{State, ReaderState, fresh_reader, last_number, phase_of, change_at}
+use Rattle.hh_core.specs.Step.{is_good, is_idle, has_begun, wrote_a, wrote_b, rests, has_first, has_a, has_b, allowed, stores_a, stores_b, ends, to_floor, tries_once, learns, ends_try, after, run}
 use Rattle.hh_core.specs.Safe.{RisesTo, IsReading, IsFirstWithin, KnowsPublished, TriesRise, IsSafe}
-use Rattle.hh_core.specs.Laws.{SafeAtFirst, SafeStep, SafeRun, EndsWell, GoodTry, PublishedStays, FloorsRise, floor_of}
+use Rattle.hh_core.specs.Laws.{SafeAtFirst, SafeStep, SafeRun, GoodTry, PublishedStays, FloorsRise, floor_of}
 use Rattle.hh_core.proofs.Lists.{All-found, slice_get-grown}
 use Rattle.hh_core.proofs.OneReader.{phase_found, good_is, pair_read}
 use Rattle.hh_core.proofs.Steps.{safe_begin, safe_store_a, safe_store_b, safe_end, safe_first, safe_load_a, safe_load_b, safe_second, safe_meet}

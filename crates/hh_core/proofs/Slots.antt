@@ -1,11 +1,10 @@
 -- The readers as the code keeps them, and as their lists.
-use Rattle.std.proofs.Common.{◌≡◌, ℕ, zero, suc, ◌+◌, ◌-◌, ◌<◌, ◌≤◌, List, [], ◌∷◌, length, get_or, set, map, Option, Some, None, refl, sym, ap, ◌∙◌, subst, arith, vec_len}
+use Rattle.std.proofs.Common.{◌≡◌, ℕ, zero, suc, ◌<◌, ◌≤◌, List, [], ◌∷◌, length, get_or, set, map, Some, refl, sym, ap, subst, arith}
 use Rattle.std.specs.List.{All, slice_get}
 use Rattle.std.proofs.lemmas.Option.{slice_get-map, slice_get_read}
-use Rattle.std.proofs.lemmas.List.Elements.{All-set, All-weaker}
 use Rattle.hh_core.specs.declared.reader.Reader.{Reader}
 use Rattle.hh_core.specs.declared.reader.Phase.{Phase}
-use Rattle.hh_core.specs.declared.reader.Phase.TheVariants.{Rest, HasFirst, HasA, HasB}
+use Rattle.hh_core.specs.declared.reader.Phase.TheVariants.{HasFirst, HasA, HasB}
 use Rattle.hh_core.specs.State.{ReaderState, phase_of, change_at}
 use Rattle.hh_core.specs.Step.{to_phase, loads_a, loads_b, ends_try}
 use Rattle.hh_core.specs.Shown.{reader_state, HasRoom}

@@ -1,14 +1,14 @@
 -- Each of the nine steps keeps a safe state.
-use Rattle.std.proofs.Common.{◌≡◌, ℕ, ◌+◌, ◌-◌, ◌*◌, ◌/◌, ◌%◌, ◌<◌, ◌≤◌, Bool, true, false, ◌&&◌, if◌then◌else◌, List, [], ◌∷◌, ◌++◌, length, Option, Some, None, refl, sym, ap, ◌∙◌, subst, arith, length-append, IsSomeAnd, IsTrue}
-use Rattle.std.specs.List.{All, slice_get}
+use Rattle.std.proofs.Common.{◌≡◌, ℕ, ◌+◌, ◌-◌, ◌*◌, ◌<◌, ◌≤◌, if◌then◌else◌, List, [], ◌∷◌, ◌++◌, length, Option, Some, None, ap, ◌∙◌, subst, arith, length-append, IsSomeAnd}
+use Rattle.std.specs.List.{slice_get}
 use Rattle.std.proofs.lemmas.List.Elements.{All-weaker}
 use Rattle.hh_core.specs.declared.step.Writer.{Writer}
 use Rattle.hh_core.specs.declared.step.Writer.TheVariants.{Idle, Begun, WroteA, WroteB}
 use Rattle.hh_core.specs.declared.reader.Phase.{Phase}
 use Rattle.hh_core.specs.declared.reader.Phase.TheVariants.{Rest, HasFirst, HasA, HasB}
-use Rattle.hh_core.specs.State.{State, ReaderState, last_number, phase_of, change_at}
+use Rattle.hh_core.specs.State.{State, ReaderState, last_number, phase_of}
 use Rattle.hh_core.specs.Step.{is_idle, to_phase, loads_a, loads_b, to_floor, ends_try, with_reader}
-use Rattle.hh_core.specs.Safe.{RisesTo, IsWritten, IsReading, KnowsPublished, TriesRise, words_in, IsSafe}
+use Rattle.hh_core.specs.Safe.{IsReading, KnowsPublished, TriesRise, words_in, IsSafe}
 use Rattle.hh_core.proofs.Lists.{All-found, All-change_at, slice_get-last}
 use Rattle.hh_core.proofs.OneReader.{phase_found, some_and_is, reading_more, known_more, tries_more, reading_first, tries_first, reading_a, tries_a, reading_b, tries_b, reading_meet, known_meet, tries_second, reading_second, known_second}
 

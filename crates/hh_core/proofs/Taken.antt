@@ -1,13 +1,10 @@
 -- A step of the code as a step of the state.
-use Rattle.std.proofs.Common.{◌≡◌, ℕ, ◌+◌, ◌-◌, ◌<◌, ◌≤◌, Bool, true, false, ◌&&◌, List, ◌∷◌, [], ◌++◌, map, Option, Some, refl, sym, ap, ◌∙◌, subst, arith, IsTrue}
+use Rattle.std.proofs.Common.{◌≡◌, ◌+◌, ◌≤◌, Bool, true, false, ◌&&◌, sym, subst}
 use Rattle.hh_core.specs.declared.step.Step.{Step}
 use Rattle.hh_core.specs.declared.lock.Core.TheInside.{Inside}
-use Rattle.hh_core.specs.declared.reader.Phase.{Phase}
-use Rattle.hh_core.specs.declared.reader.Phase.TheVariants.{Rest}
-use Rattle.hh_core.specs.State.{State, ReaderState, phase_of}
-use Rattle.hh_core.specs.Step.{allowed, after, rests}
+use Rattle.hh_core.specs.Step.{allowed, after}
 use Rattle.hh_core.specs.Safe.{IsSafe}
-use Rattle.hh_core.specs.Shown.{Shown, Takes, HasRoom}
+use Rattle.hh_core.specs.Shown.{Shown, Takes}
 use Rattle.hh_core.specs.Lock.{state_in, shown_by, IsLock}
 use Rattle.hh_core.proofs.Orders.{safe_step}
 

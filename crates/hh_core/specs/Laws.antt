@@ -1,8 +1,7 @@
 -- What is proved of the sequence lock, over every order of its steps.
-use Rattle.std.specs.Prelude.{◌≡◌, ℕ, ◌/◌, ◌≤◌, true, List, ◌∷◌, ◌++◌, slice_get, Some, IsTrue}
+use Rattle.std.specs.Prelude.{◌≡◌, ℕ, ◌/◌, ◌≤◌, true, List, slice_get, Some, IsTrue}
 use Rattle.std.specs.Option.{option_map_or}
 use Rattle.hh_core.specs.declared.step.Step.{Step}
-use Rattle.hh_core.specs.declared.step.Step.TheVariants as step
 use Rattle.hh_core.specs.declared.reader.Phase.TheVariants.{HasB}
 use Rattle.hh_core.specs.State.{State, ReaderState, at_first, last_number, phase_of}
 use Rattle.hh_core.specs.Step.{is_good, allowed, after, run}

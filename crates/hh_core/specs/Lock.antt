@@ -1,5 +1,5 @@
 -- The fields of a lock: what they show, and what holds of them.
-use Rattle.std.specs.Prelude.{ℕ, ◌+◌, ◌≤◌, map, vec_len, vec_capacity}
+use Rattle.std.specs.Prelude.{◌+◌, ◌≤◌, map, vec_len, vec_capacity}
 use Rattle.std.specs.List.{All}
 use Rattle.hh_core.specs.declared.lock.Core.TheInside.{Inside}
 use Rattle.hh_core.specs.State.{State}

@@ -1,4 +1,4 @@
-use Rattle.std.proofs.Common.{◌≡◌, ◌+◌, ◌≤◌, length}
+use Rattle.std.proofs.Common.{◌+◌, ◌≤◌, length}
 use Rattle.hh_core.specs.Safe.{IsSafe}
 use Rattle.hh_core.proofs.Running.{RunsTo}
 use Rattle.hh_core.proofs.lock.Core.run.Given as goal

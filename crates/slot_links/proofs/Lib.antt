@@ -1,0 +1,9 @@
+pub mod Chains
+pub mod Members
+pub mod Turns
+pub mod Shows
+pub mod Changes
+pub mod Looks
+pub mod Moved
+pub mod Callers
+pub mod Rows
