@@ -7,8 +7,7 @@ use Rattle.nb_base.specs.declared.params.Params.{Params}
 use Rattle.nb_base.specs.declared.line.Line.{Line}
 use Rattle.nud_machine.specs.State.{State, stays}
 use Rattle.nb_journal.specs.Keys.{is_key, key_of}
-use Rattle.nb_journal.specs.Effect.{effect}
-use Rattle.nb_journal.specs.Fold.{change, meet}
+use Rattle.nb_journal.specs.Fold.{effect, change, meet}
 
 pub is_key-same : (k : Key) → is_key k k ≡ true
 unfolding is_key

@@ -10,8 +10,7 @@ use Rattle.nb_base.specs.declared.op.Op.TheVariants as op
 use Rattle.nb_base.specs.declared.line.Line.{Line}
 use Rattle.nud_machine.specs.State.{State, Stepped, absent}
 use Rattle.nb_journal.specs.Keys.{is_key, key_of, made_known}
-use Rattle.nb_journal.specs.Effect.{effect}
-use Rattle.nb_journal.specs.Fold.{meet, change, state_of, with_key, known_keys}
+use Rattle.nb_journal.specs.Fold.{effect, meet, change, state_of, with_key, known_keys}
 use Rattle.nb_journal.specs.Accounts.{sum_over}
 use Rattle.nb_journal.proofs.Changes.{is_key-same, change-other}
 use Rattle.nb_journal.proofs.Lines.{by_last}

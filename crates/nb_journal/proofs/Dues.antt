@@ -10,8 +10,7 @@ use Rattle.nb_base.specs.declared.line.Line.{Line}
 use Rattle.nb_base.specs.Params.{InRange}
 use Rattle.nud_machine.specs.State.{State, Stepped, made, stays}
 use Rattle.nb_journal.specs.Keys.{is_key, key_of}
-use Rattle.nb_journal.specs.Effect.{Effect, Passes, Refuses, Brings, effect}
-use Rattle.nb_journal.specs.Fold.{meet, turn_away, change_by, change, state_of}
+use Rattle.nb_journal.specs.Fold.{Effect, Passes, Refuses, Brings, effect, meet, turn_away, change_by, change, state_of}
 use Rattle.nb_journal.specs.Lawful.{due_of, NothingDue, NothingOverdue}
 use Rattle.nud_machine.specs.Step.{step}
 use Rattle.nb_journal.proofs.Steps.{Rises, step_rises}

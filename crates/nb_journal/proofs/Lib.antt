@@ -18,3 +18,9 @@ pub mod Bound
 pub mod Rows
 pub mod Queues
 pub mod Unique
+pub mod Fates
+pub mod GoesOn
+pub mod Takes
+pub mod Evaluates
+pub mod Decides
+pub mod Decided

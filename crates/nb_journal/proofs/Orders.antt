@@ -21,8 +21,7 @@ use Rattle.nud_machine.specs.Send.{send_in}
 use Rattle.nud_machine.specs.Timer.{fire_in}
 use Rattle.nud_machine.specs.Step.{heard_as, arp_manner, ns_manner, na_manner, admin_manner, stamp, move, step}
 use Rattle.nb_journal.specs.Keys.{is_key, key_of, is_own}
-use Rattle.nb_journal.specs.Effect.{Effect, Passes, Refuses, Brings, effect}
-use Rattle.nb_journal.specs.Fold.{meet, state_of, is_present}
+use Rattle.nb_journal.specs.Fold.{Effect, Passes, Refuses, Brings, effect, meet, state_of, is_present}
 use Rattle.nb_journal.specs.Lawful.{is_collect, base_of, brings_event, made_by, making, order_after, making_order, collected}
 use Rattle.nb_journal.proofs.Changes.{is_key-same, change-named}
 use Rattle.nb_journal.proofs.Lines.{by_last, base_of-collect, base_of-other}

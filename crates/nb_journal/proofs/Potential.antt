@@ -18,8 +18,7 @@ use Rattle.nud_machine.specs.Update.{Manner, Rule, rule_for, update_by, router_b
 use Rattle.nud_machine.specs.Send.{send_in}
 use Rattle.nud_machine.specs.Timer.{fire_in}
 use Rattle.nud_machine.specs.Step.{heard_as, arp_manner, ns_manner, na_manner, admin_manner, stamp, move, step}
-use Rattle.nb_journal.specs.Effect.{Effect, Passes, Refuses, Brings, effect}
-use Rattle.nb_journal.specs.Fold.{meet, state_of}
+use Rattle.nb_journal.specs.Fold.{Effect, Passes, Refuses, Brings, effect, meet, state_of}
 use Rattle.nb_journal.specs.Accounts.{timers_left, potential}
 use Rattle.nb_journal.proofs.Lines.{by_last}
 use Rattle.nb_journal.proofs.Folds.{state_of-nil, state_of-snoc}

@@ -25,8 +25,7 @@ use Rattle.nud_machine.specs.Send.{begins, joins, sends, send_in}
 use Rattle.nud_machine.specs.Timer.{is_within, probes, unicast, ends_reachable, ends_delay, fire_in}
 use Rattle.nud_machine.specs.Step.{heard_as, arp_manner, ns_manner, na_manner, admin_manner, with_entry, stamp, move, step}
 use Rattle.nb_journal.specs.Keys.{is_key, key_of}
-use Rattle.nb_journal.specs.Effect.{Effect, Passes, Refuses, Brings, effect, id_of}
-use Rattle.nb_journal.specs.Fold.{meet, turn_away, change_by, change, state_of, acts_of, is_present, present_count}
+use Rattle.nb_journal.specs.Fold.{Effect, Passes, Refuses, Brings, effect, id_of, meet, turn_away, change_by, change, state_of, acts_of, is_present, present_count}
 use Rattle.nb_journal.specs.Lawful.{EachLine, base_of, making}
 use Rattle.nb_journal.specs.Laws.{PacketsLeaveInOrder}
 use Rattle.nb_journal.specs.Accounts.{ended, sent_by, sends_to, ended_of}
@@ -392,6 +391,11 @@ joined : (sends ends waiting sent ended_now waits : List OpId) → sends ≡ end
 joined sends ends waiting sent ended_now waits before now =
     ap (λ (xs : List OpId). xs ++ sent) before ∙ append_assoc ends waiting sent ∙ ap (λ (xs : List OpId). ends ++ xs) now ∙ sym (append_assoc ends ended_now waits)
 
+-- what waited for a key and what a line sends to it are what ends and what waits
+pub line_order : (p : Params) (past : List Line) (l : Line) (key : Key) → Fits p past l → IsInOrder (state_of p past key).waiting (sent_by l key l.op) (change p l key (state_of p past key))
+line_order p past l key fits = change_order p l key (state_of p past key) (state_of-kept p past key) (state_of-gone p past key)
+    (λ named e on full. absent_waits (state_of p past key) (state_of-gone p past key) (subst (λ (k : Key). is_present p past k ≡ false) (is_key-one named key on) (full_absent p past l named fits e full)))
+
 in_order : (p : Params) (key : Key) (lines : List Line) → EachLine (Fits p) lines → sends_to lines key ≡ ended_of p lines key ++ (state_of p lines key).waiting
 in_order p key = by_last (λ (xs : List Line). EachLine (Fits p) xs → sends_to xs key ≡ ended_of p xs key ++ (state_of p xs key).waiting)
     (λ all. ap (λ (s : State). s.waiting) (sym (state_of-nil p key)) ∙ ap (λ (xs : List OpId). xs ++ (state_of p [] key).waiting) (sym (ended_of-nil p key)))
@@ -401,9 +405,7 @@ in_order p key = by_last (λ (xs : List Line). EachLine (Fits p) xs → sends_to
           let parts = each-last (Fits p) xs x all in
           let s = state_of p xs key in
           sends_to-snoc xs x key
-          ∙ joined (sends_to xs key) (ended_of p xs key) s.waiting (sent_by x key x.op) (ended (acts_of p xs x key)) (change p x key s).state.waiting (before parts.0)
-          (change_order p x key s (state_of-kept p xs key) (state_of-gone p xs key)
-          (λ named e on full. absent_waits s (state_of-gone p xs key) (subst (λ (k : Key). is_present p xs k ≡ false) (is_key-one named key on) (full_absent p xs x named parts.1 e full))))
+          ∙ joined (sends_to xs key) (ended_of p xs key) s.waiting (sent_by x key x.op) (ended (acts_of p xs x key)) (change p x key s).state.waiting (before parts.0) (line_order p xs x key parts.1)
           ∙ ap (λ (ids : List OpId). ids ++ (change p x key s).state.waiting) (sym (ended_of-snoc p xs x key))
           ∙ ap (λ (t : State). ended_of p (xs ++ x ∷ []) key ++ t.waiting) (sym (state_of-snoc p xs x key))
 

@@ -12,8 +12,7 @@ use Rattle.nud_machine.specs.declared.event.Event.TheVariants as event
 use Rattle.nud_machine.specs.State.{State, Stepped, absent}
 use Rattle.nud_machine.specs.Step.{step}
 use Rattle.nb_journal.specs.Keys.{is_key, key_of, made_known}
-use Rattle.nb_journal.specs.Effect.{effect, if_so, is_loose, is_swept}
-use Rattle.nb_journal.specs.Fold.{meet, state_of, with_key, known_keys, is_present}
+use Rattle.nb_journal.specs.Fold.{effect, if_so, is_loose, is_swept, meet, state_of, with_key, known_keys, is_present}
 use Rattle.nb_journal.specs.Lawful.{due_of, collect_line}
 use Rattle.nb_journal.specs.Accounts.{potential, sum_over, total_potential}
 use Rattle.nb_journal.proofs.Changes.{is_key-same, change-named, change-other}

@@ -18,10 +18,10 @@ use Rattle.nud_machine.specs.declared.act.Cause.{Cause}
 use Rattle.nud_machine.specs.declared.entry.Entry.{Entry}
 use Rattle.nud_machine.specs.State.{State, absent}
 use Rattle.nud_machine.specs.Record.{record_of, same_record}
+use Rattle.nud_machine.specs.Laws.{leaving}
 use Rattle.nb_journal.specs.Keys.{is_key, is_own}
-use Rattle.nb_journal.specs.Effect.{id_of}
+use Rattle.nb_journal.specs.Fold.{id_of, change, state_of, acts_of, known_keys}
 use Rattle.nb_journal.specs.Lawful.{fold_lines}
-use Rattle.nb_journal.specs.Fold.{change, state_of, acts_of, known_keys}
 
 -- ---- published records
 
@@ -62,6 +62,7 @@ pub data Fate : Type 0 where
   Dropped : ℕ → Cause → Fate
   Waits : Fate
 
+-- two numbers of operations are one
 abbrev pub is_id : OpId → OpId → Bool
 is_id a b = a.0 == b.0
 
@@ -90,18 +91,18 @@ is_waiting p journal id = list_any (λ key. list_any (is_id id) (state_of p jour
 unfoldable pub fates_of : Params → List Line → OpId → List Fate
 fates_of p journal id = ends_behind p id [] journal ++ (if is_waiting p journal id then Waits ∷ [] else [])
 
--- the packet that an act ends: one that goes out or is dropped
-abbrev pub ended_by : Act → List OpId
-ended_by (act.Transmit id mac) = id ∷ []
-ended_by (act.Drop id cause) = id ∷ []
-ended_by (act.Wait id) = []
-ended_by act.SolicitGroup = []
-ended_by (act.SolicitUnicast mac) = []
+-- a line sends the packet
+abbrev pub sends_packet : OpId → Line → Op → Bool
+sends_packet id line (op.Send key) = is_id id (id_of line)
+sends_packet id line _ = false
 
--- the packets that acts end, in order
+-- how many lines send it
+abbrev pub times_sent : List Line → OpId → ℕ
+times_sent journal id = length (filter (λ line. sends_packet id line line.op) journal)
+
+-- the packets that acts end, in order: those that go out or are dropped
 abbrev pub ended : List Act → List OpId
-ended [] = []
-ended (a ∷ acts) = ended_by a ++ ended acts
+ended acts = flat_map leaving acts
 
 -- the packet that a line sends to a key
 abbrev pub sent_by : Line → Key → Op → List OpId

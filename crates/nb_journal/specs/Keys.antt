@@ -44,6 +44,7 @@ is_own op.Sweep = false
 is_own (op.Collect key) = false
 is_own _ = true
 
+-- a timer's line
 abbrev pub is_timer : Op → Bool
 is_timer (op.Timer key) = true
 is_timer _ = false

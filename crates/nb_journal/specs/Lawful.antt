@@ -9,8 +9,7 @@ use Rattle.nb_base.specs.declared.op.Op.TheVariants as op
 use Rattle.nb_base.specs.declared.line.Line.{Line}
 use Rattle.nud_machine.specs.State.{State, same_nud}
 use Rattle.nb_journal.specs.Keys.{key_of, is_own, is_timer}
-use Rattle.nb_journal.specs.Effect.{Effect, Brings, effect, is_loose, has_waiting, is_past}
-use Rattle.nb_journal.specs.Fold.{state_of, rank_of, is_present, present_count}
+use Rattle.nb_journal.specs.Fold.{Effect, Brings, effect, is_loose, has_waiting, is_past, state_of, rank_of, is_present, present_count}
 
 -- P holds of each of the lines with the lines before it, of which the past are the first
 abbrev pub each_line : (List Line → Line → Type 0) → List Line → List Line → Type 0
@@ -76,6 +75,7 @@ is_before_sweep u line = nat_lt line.at u || (line.at == u && is_timer line.op)
 abbrev pub before_sweep : ℕ → List Line → List Line
 before_sweep u journal = filter (is_before_sweep u) journal
 
+-- a sweep's line
 abbrev pub sweep_line : ℕ → Line
 sweep_line u = record { at = u; id = None; op = op.Sweep; full = None }
 
@@ -113,6 +113,7 @@ base_of (line ∷ lines) = add_to line (base_of lines)
     add_to line [] = if is_collect line.op then [] else line ∷ []
     add_to line (next ∷ rest) = line ∷ next ∷ rest
 
+-- an effect that brings an event
 abbrev pub brings_event : Effect → Bool
 brings_event (Brings e) = true
 brings_event _ = false
@@ -123,6 +124,7 @@ made_by p base line None = None
 made_by p base line (Some key) =
     if is_own line.op && not (is_present p base key) && brings_event (effect p line (state_of p base key) line.op) then Some key else None
 
+-- the same for the key that the line names
 abbrev pub making : Params → List Line → Line → Option Key
 making p base line = made_by p base line (key_of line.op)
 
@@ -159,6 +161,7 @@ collected limit present takes (key ∷ keys) =
     if nat_lt present limit then []
     else (if takes key then key ∷ collected limit (present - 1) takes keys else collected limit present takes keys)
 
+-- the line by which a forced pass removes a key
 abbrev pub collect_line : ℕ → Key → Line
 collect_line at key = record { at = at; id = None; op = op.Collect key; full = None }
 

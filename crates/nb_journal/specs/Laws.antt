@@ -2,6 +2,7 @@
 use Rattle.std.specs.Prelude.{◌≡◌, ℕ, ◌+◌, ◌<◌, ◌≤◌, true, is_some, List, [], ◌∷◌, ◌++◌, length, Some}
 use Rattle.std.specs.List.{list_any}
 use Rattle.nb_base.specs.declared.key.Key.{Key}
+use Rattle.nb_base.specs.declared.time.OpId.{OpId}
 use Rattle.nb_base.specs.declared.host.Host.{Host}
 use Rattle.nb_base.specs.declared.params.Params.{Params}
 use Rattle.nb_base.specs.declared.line.Line.{Line}
@@ -11,8 +12,8 @@ use Rattle.nud_machine.specs.State.{absent_entry}
 use Rattle.nud_machine.specs.Record.{record_of}
 use Rattle.nb_journal.specs.Keys.{is_key, is_own}
 use Rattle.nb_journal.specs.Fold.{state_of, known_keys, rank_of}
-use Rattle.nb_journal.specs.Lawful.{last_moment, due_of, before_sweep, collects, full_of, IsLawful, IsBrokenOff}
-use Rattle.nb_journal.specs.Accounts.{ends_with, with_record, published, potential, sends_to, ended_of, timer_line, own_lines, line_bound}
+use Rattle.nb_journal.specs.Lawful.{last_moment, due_of, NothingDue, IsNextDue, IsSweepMoment, IsCrowded, sweep_line, before_sweep, collects, full_of, IsLawful, IsBrokenOff}
+use Rattle.nb_journal.specs.Accounts.{Fate, fates_of, times_sent, ends_with, with_record, published, potential, sends_to, ended_of, timer_line, own_lines, line_bound}
 
 -- the keys that a journal knows are the first of those that a longer one knows
 abbrev pub KeysGrow : Type 0
@@ -54,12 +55,56 @@ GoesOnByOperation =
     → line.full ≡ full_of p (journal ++ collects p journal line) line
     → IsLawful p ((journal ++ collects p journal line) ++ line ∷ []) line.at
 
+-- all that is asked for before a moment stands: the journal is lawful at the clock right before it, or broken off at it
+pub data StandsUpTo (p : Params) (journal : List Line) : ℕ → Type 0 where
+  Lawful : (clock : ℕ) → IsLawful p journal clock → StandsUpTo p journal (clock + 1)
+  BrokenOff : (clock : ℕ) → IsBrokenOff p journal clock → StandsUpTo p journal clock
+
+-- from a moment on, and before another, no sweep is asked for
+abbrev pub NoSweepAsked : Params → List Line → ℕ → ℕ → Type 0
+NoSweepAsked p journal from before = (u : ℕ) → IsSweepMoment p u → from ≤ u → u < before → IsCrowded p (before_sweep u journal) → ⊥
+
+-- a journal goes on by the timer's line of its next due, where no sweep is asked for before it
+abbrev pub GoesOnByTimer : Type 0
+GoesOnByTimer =
+    (p : Params) (journal : List Line) (from : ℕ) (key : Key) (at : ℕ)
+    → InRange p
+    → StandsUpTo p journal from
+    → IsNextDue p journal key at
+    → NoSweepAsked p journal from at
+    → IsBrokenOff p (journal ++ timer_line at key ∷ []) at
+
+-- a journal goes on by the line of a sweep that is asked for, where nothing is due any more and no sweep is asked for before it
+abbrev pub GoesOnBySweep : Type 0
+GoesOnBySweep =
+    (p : Params) (journal : List Line) (from u : ℕ)
+    → InRange p
+    → StandsUpTo p journal from
+    → IsSweepMoment p u
+    → NothingDue p journal u
+    → journal ≡ before_sweep u journal
+    → IsCrowded p journal
+    → NoSweepAsked p journal from u
+    → IsLawful p (journal ++ sweep_line u ∷ []) u
+
+-- a journal is lawful at a clock that its last line hasn't passed, where nothing is due and no sweep is asked for up to it
+abbrev pub GoesOnInTime : Type 0
+GoesOnInTime =
+    (p : Params) (journal : List Line) (from clock : ℕ)
+    → InRange p
+    → StandsUpTo p journal from
+    → last_moment journal ≤ clock
+    → NothingDue p journal clock
+    → NoSweepAsked p journal from (clock + 1)
+    → IsLawful p journal clock
+
 -- behind each line a cell has published its entry's record last: one record more, unless it is the last one again
 pub record PublishesStates (p : Params) (host : Host) (key : Key) : Type 0 where
   pub first : published p host [] key ≡ record_of absent_entry host key ∷ []
   pub next : (lines : List Line) (line : Line) → published p host (lines ++ line ∷ []) key ≡ with_record (published p host lines key) (record_of (state_of p (lines ++ line ∷ []) key).entry host key)
   pub last : (lines : List Line) → ends_with (published p host lines key) (record_of (state_of p lines key).entry host key) ≡ true
 
+-- so each key's cell publishes
 abbrev pub CellsPublishStates : Type 0
 CellsPublishStates = (p : Params) (host : Host) (key : Key) → PublishesStates p host key
 
@@ -98,6 +143,10 @@ BrokenOffInBound =
 -- in a lawful journal the packets to a key end in the order of their sends, each once: those that have gone out or been dropped, and then those that wait, are those that were sent
 abbrev pub PacketsLeaveInOrder : Type 0
 PacketsLeaveInOrder = (p : Params) (journal : List Line) (clock : ℕ) (key : Key) → IsLawful p journal clock → sends_to journal key ≡ ended_of p journal key ++ (state_of p journal key).waiting
+
+-- in a lawful journal a packet that was sent once has one fate: it was sent on, it was dropped, or it waits
+abbrev pub EachSendHasOneFate : Type 0
+EachSendHasOneFate = (p : Params) (journal : List Line) (clock : ℕ) (id : OpId) → IsLawful p journal clock → times_sent journal id ≡ 1 → (fate : Fate) × (fates_of p journal id ≡ fate ∷ [])
 
 -- two journals that are lawful at one clock and have the same operations' lines are one
 abbrev pub LawfulAreOne : Type 0

@@ -1,7 +1,6 @@
 pub mod Keys
-pub mod Effect
 pub mod Fold
-pub mod Reply
 pub mod Lawful
 pub mod Accounts
+pub mod Evaluated
 pub mod Laws

@@ -1,5 +1,5 @@
 //! The laws of journals. Each function does nothing: its contract is the law.
-ghost use Rattle.nb_journal.specs.Laws.{KeysGrow, RanksStay, DuesLieAhead, SweepsCutInTwo, EmptyIsLawful, LawfulEarlier, GoesOnByOperation, CellsPublishStates, TimersLower, PotentialsAreSmall, LawfulInBound, BrokenOffInBound, PacketsLeaveInOrder, LawfulAreOne};
+ghost use Rattle.nb_journal.specs.Laws.{KeysGrow, RanksStay, DuesLieAhead, SweepsCutInTwo, EmptyIsLawful, LawfulEarlier, GoesOnByOperation, GoesOnByTimer, GoesOnBySweep, GoesOnInTime, CellsPublishStates, TimersLower, PotentialsAreSmall, LawfulInBound, BrokenOffInBound, PacketsLeaveInOrder, EachSendHasOneFate, LawfulAreOne};
 
 /// The keys that a journal knows are the first of those that a longer one knows, and each keeps its rank.
 pub fn known_keys_only_grow()
@@ -21,6 +21,14 @@ pub fn sweeps_cut_in_two()
 pub fn lawful_goes_on()
     ensures empty { EmptyIsLawful }
     ensures operation { GoesOnByOperation }
+{}
+
+/// A journal goes on by the timer's line of its next due, by the line of a sweep that is asked for, and by time alone where
+/// nothing is due and no sweep is asked for.
+pub fn lawful_goes_on_by_itself()
+    ensures timer { GoesOnByTimer }
+    ensures sweep { GoesOnBySweep }
+    ensures time { GoesOnInTime }
 {}
 
 /// A lawful journal is lawful at every lesser clock that its last line hasn't passed.
@@ -48,6 +56,12 @@ pub fn journals_stay_in_bound()
 /// Packets to a key leave its queue in the order of their sends, each once: those that have gone out or been dropped, and then those that wait, are those that were sent.
 pub fn packets_leave_in_order()
     ensures { PacketsLeaveInOrder }
+{}
+
+/// A packet that a lawful journal sends once has exactly one fate: it went out at one line, or it was dropped at one line by
+/// a cause, or it waits at the end.
+pub fn each_send_has_one_fate()
+    ensures { EachSendHasOneFate }
 {}
 
 /// Two journals that are lawful at one clock and have the same operations' lines are one.
