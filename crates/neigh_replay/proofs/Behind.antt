@@ -1,8 +1,7 @@
 -- What stands behind the lines of a first path.
-use Rattle.std.proofs.Common.{◌≡◌, ℕ, ◌%◌, ◌<◌, Bool, true, false, List, [], ◌∷◌, ◌++◌, Option, Some, None, refl, sym, ap, ◌∙◌, arith}
+use Rattle.std.proofs.Common.{◌≡◌, [], ◌∷◌, Some, refl, ap, ◌∙◌, arith}
 use Rattle.nb_base.specs.declared.key.Key.{Key}
 use Rattle.nb_base.specs.declared.key.Key.TheVariants.{V4, V6}
-use Rattle.nb_base.specs.declared.line.Line.{Line}
 use Rattle.nb_base.specs.declared.line.Reply.TheVariants as reply
 use Rattle.nb_base.specs.declared.nud.Nud.TheVariants as nud
 use Rattle.nud_machine.specs.declared.act.Act.TheVariants.{Transmit}
@@ -10,11 +9,9 @@ use Rattle.nud_machine.specs.declared.event.Event.TheVariants as event
 use Rattle.nud_machine.specs.State.{State, Stepped, made, absent}
 use Rattle.nud_machine.specs.Step.{step}
 use Rattle.nud_machine.proofs.Same.{same_mac-same}
-use Rattle.nb_journal.specs.Keys.{is_key}
-use Rattle.nb_journal.specs.Fold.{change, state_of, acts_of, known_keys}
-use Rattle.nb_journal.specs.Reply.{reply_of}
+use Rattle.nb_journal.specs.Fold.{change, state_of, acts_of, known_keys, reply_of}
 use Rattle.nb_journal.proofs.Changes.{is_key-same, change-named}
-use Rattle.neigh_run.specs.Merged.{bucket_of}
+use Rattle.nb_base.specs.Buckets.{bucket_of}
 use Rattle.neigh_replay.specs.declared.first_path.Added.{Added}
 use Rattle.neigh_replay.specs.declared.first_path.Sending.{Sending}
 use Rattle.neigh_replay.specs.FirstRun.{add_entry, send_packet, id}

@@ -1,4 +1,3 @@
-pub mod HexBytes
 pub mod Behind
 pub mod Explicit
 pub mod InlineRun

@@ -1,7 +1,6 @@
 -- A text of a host line, at most one permanent entry and at most one packet to it.
-use Rattle.std.specs.Prelude.{ℕ, ◌+◌, Bool, ◌&&◌, ◌==◌, if◌then◌else◌, nat_le, List, [], ◌∷◌, ◌++◌, length, take, drop, position, Option, Some, None, bytes_eq, codes}
-use Rattle.std.specs.Option.{option_map, option_to_list}
-use Rattle.nb_base.specs.declared.mac.Mac.{Mac}
+use Rattle.std.specs.Prelude.{ℕ, ◌+◌, ◌==◌, if◌then◌else◌, nat_le, List, length, take, drop, position, Option, Some, None, codes}
+use Rattle.std.specs.Option.{option_map}
 use Rattle.nb_base.specs.declared.key.Key.TheVariants.{V4}
 use Rattle.nb_base.specs.declared.host.Host.{Host}
 use Rattle.neigh_replay.specs.declared.first_path.Added.{Added}
@@ -10,7 +9,8 @@ use Rattle.neigh_replay.specs.declared.first_path.FirstPath.{FirstPath}
 use Rattle.neigh_replay.specs.declared.first_path.FirstPath.TheVariants.{Alone, Entry, Packet}
 use Rattle.nb_base.specs.Name.{name_of}
 use Rattle.nb_base.specs.Address.{mac_of, ip4_of, is_neighbour}
-use Rattle.neigh_replay.specs.Words.{◌>>=◌, Words, words_of, word, field, last, moment_of, payload_of}
+use Rattle.text_codes.specs.Lines.{Words}
+use Rattle.neigh_replay.specs.Words.{◌>>=◌, words_of, word, field, last, moment_of, payload_of}
 
 -- `host dev NAME lladdr MAC inet A4`
 unfoldable pub host_line : Words → Option Host

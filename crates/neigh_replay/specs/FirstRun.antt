@@ -1,8 +1,6 @@
 -- The run that is made of a first path.
-use Rattle.std.specs.Prelude.{ℕ, List, [], ◌∷◌, Option, Some, None}
-use Rattle.nb_base.specs.declared.mac.Mac.{Mac}
+use Rattle.std.specs.Prelude.{ℕ, List, [], ◌∷◌, Some, None}
 use Rattle.nb_base.specs.declared.key.Key.TheVariants.{V4}
-use Rattle.nb_base.specs.declared.host.Host.{Host}
 use Rattle.nb_base.specs.declared.time.OpId.{OpId}
 use Rattle.nb_base.specs.declared.line.Line.{Line}
 use Rattle.nb_base.specs.declared.nud.Nud.TheVariants as nud
@@ -14,13 +12,10 @@ use Rattle.nb_base.specs.declared.outcome.Outcome.TheVariants as outcome
 use Rattle.nb_base.specs.declared.plan.Mode.TheVariants as mode
 use Rattle.nb_base.specs.declared.plan.Plan.{Plan}
 use Rattle.nb_base.specs.declared.plan.SendItem.{SendItem}
-use Rattle.nb_base.specs.declared.plan.ControlItem.{ControlItem}
-use Rattle.nb_base.specs.declared.plan.ControlItem.TheVariants as control
 use Rattle.nb_base.specs.declared.host_line.HostLine.{HostLine}
 use Rattle.nb_base.specs.declared.host_line.HostLine.TheVariants as host_line
 use Rattle.neigh_run.specs.declared.run.Run.{Run}
 use Rattle.neigh_replay.specs.declared.first_path.Added.{Added}
-use Rattle.neigh_replay.specs.declared.first_path.Sending.{Sending}
 use Rattle.neigh_replay.specs.declared.first_path.FirstPath.{FirstPath}
 use Rattle.neigh_replay.specs.declared.first_path.FirstPath.TheVariants.{Alone, Entry, Packet}
 use Rattle.neigh_replay.specs.Plan.{plan_of, send_item}

@@ -3,7 +3,8 @@ use Rattle.std.specs.Prelude.{ℕ, List, [], ◌∷◌, ◌++◌, codes, decimal
 use Rattle.nb_base.specs.declared.host.Host.{Host}
 use Rattle.nb_base.specs.declared.key.Key.TheVariants.{V4}
 use Rattle.nb_base.specs.Address.{mac_text, key_text}
-use Rattle.neigh_run.specs.Text.{Words, hex}
+use Rattle.text_codes.specs.Lines.{Words}
+use Rattle.text_codes.specs.HexText.{hex_text}
 use Rattle.neigh_run.specs.Spelling.{host_words}
 use Rattle.neigh_run.specs.Frames.{frame_to}
 use Rattle.neigh_replay.specs.declared.first_path.Added.{Added}
@@ -50,7 +51,7 @@ abbrev pub send_words : Added → Sending → Words
 send_words added sending = decimal 1 ∷ decimal sending.at ∷ decimal 33 ∷ codes "send" ∷ key_text (V4 added.address) ∷ codes "->" ∷ codes "sent" ∷ []
 
 abbrev pub tx_words : Host → Added → Sending → Words
-tx_words h added sending = [] ∷ [] ∷ codes "tx" ∷ decimal 33 ∷ hex (frame_to h added.mac (send_item added sending)) ∷ []
+tx_words h added sending = [] ∷ [] ∷ codes "tx" ∷ decimal 33 ∷ hex_text (frame_to h added.mac (send_item added sending)) ∷ []
 
 abbrev pub log_words : Sending → Words
 log_words sending = decimal 1 ∷ decimal sending.at ∷ codes "inline" ∷ decimal 1 ∷ codes "sent" ∷ []

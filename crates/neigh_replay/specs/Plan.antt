@@ -1,25 +1,14 @@
 -- The plan of a first path: the host, the parameters at their defaults, one bucket, and at most one item of participant 0 and one packet of one sender.
-use Rattle.std.specs.Prelude.{ℕ, List, [], ◌∷◌, Option, Some, None}
-use Rattle.nb_base.specs.declared.mac.Mac.{Mac}
+use Rattle.std.specs.Prelude.{List, [], ◌∷◌, Some}
 use Rattle.nb_base.specs.declared.key.Key.TheVariants.{V4}
 use Rattle.nb_base.specs.declared.host.Host.{Host}
-use Rattle.nb_base.specs.declared.time.OpId.{OpId}
 use Rattle.nb_base.specs.Params.{default_params}
-use Rattle.nb_base.specs.declared.line.Line.{Line}
 use Rattle.nb_base.specs.declared.nud.Nud.TheVariants as nud
 use Rattle.nb_base.specs.declared.op.Op.TheVariants as op
-use Rattle.nb_base.specs.declared.line.Reply.TheVariants as reply
-use Rattle.nb_base.specs.declared.outcome.Why.TheVariants as why
-use Rattle.nb_base.specs.declared.outcome.Outcome.{Outcome}
-use Rattle.nb_base.specs.declared.outcome.Outcome.TheVariants as outcome
-use Rattle.nb_base.specs.declared.plan.Mode.TheVariants as mode
 use Rattle.nb_base.specs.declared.plan.Plan.{Plan}
 use Rattle.nb_base.specs.declared.plan.SendItem.{SendItem}
 use Rattle.nb_base.specs.declared.plan.ControlItem.{ControlItem}
 use Rattle.nb_base.specs.declared.plan.ControlItem.TheVariants as control
-use Rattle.nb_base.specs.declared.host_line.HostLine.{HostLine}
-use Rattle.nb_base.specs.declared.host_line.HostLine.TheVariants as host_line
-use Rattle.neigh_run.specs.declared.run.Run.{Run}
 use Rattle.neigh_replay.specs.declared.first_path.Added.{Added}
 use Rattle.neigh_replay.specs.declared.first_path.Sending.{Sending}
 use Rattle.neigh_replay.specs.declared.first_path.FirstPath.{FirstPath}

@@ -1,5 +1,5 @@
 -- The answers of a replay, and the one line that each failure writes to standard error.
-use Rattle.std.specs.Prelude.{◌≡◌, ℕ, ◌<◌, ◌≤◌, Bool, ◌==◌, if◌then◌else◌, IsTrue, List, [], ◌∷◌, ◌++◌, take, length, Option, Some, codes}
+use Rattle.std.specs.Prelude.{ℕ, ◌<◌, ◌==◌, if◌then◌else◌, IsTrue, List, [], ◌∷◌, ◌++◌, take, length, Option, codes}
 use Rattle.std.specs.List.{list_any}
 use Rattle.std.specs.Io.KnownBytes.{Appends}
 use Rattle.nb_io.specs.Faults.{Rose}

@@ -1,16 +1,15 @@
 -- Reading the words of a line from left to right.
-use Rattle.std.specs.Prelude.{ℕ, ◌+◌, ◌*◌, Bool, ◌&&◌, ◌==◌, if◌then◌else◌, nat_le, nat_lt, List, [], ◌∷◌, ◌++◌, length, Option, Some, None, bytes_eq}
-use Rattle.std.specs.Option.{option_and_then, option_map}
+use Rattle.std.specs.Prelude.{ℕ, ◌&&◌, ◌==◌, if◌then◌else◌, nat_le, List, [], ◌∷◌, length, Option, Some, None, bytes_eq}
+use Rattle.std.specs.Option.{option_map}
 use Rattle.std.specs.List.{slice_split}
-use Rattle.nb_base.specs.Parts.{hex_digit_of, number_of}
+use Rattle.nb_base.specs.Parts.{number_of}
+use Rattle.text_codes.specs.Lines.{Words}
+use Rattle.text_codes.specs.HexText.{hex_bytes_of}
 
 infixl 10 ◌>>=◌
 abbrev pub ◌>>=◌ : {A B : Type 0} → Option A → (A → Option B) → Option B
 None >>= f = None
 (Some x) >>= f = f x
-
-abbrev pub Words : Type 0
-Words = List (List ℕ)
 
 abbrev pub words_of : List ℕ → Words
 words_of line = slice_split (λ b. b == 32) line
@@ -39,18 +38,10 @@ abbrev pub moment_of : List ℕ → Option ℕ
 moment_of [] = None
 moment_of (b ∷ digits) = if b == 64 then number_of digits >>= within_limit else None
 
-abbrev pub hex_pair_of : ℕ → ℕ → Option ℕ
-hex_pair_of a b = hex_digit_of a >>= λ x. hex_digit_of b >>= λ y. Some (16 * x + y)
-
--- two hexadecimal digits for each byte
-abbrev pub hex_bytes_of : List ℕ → Option (List ℕ)
-hex_bytes_of [] = Some []
-hex_bytes_of (a ∷ []) = None
-hex_bytes_of (a ∷ b ∷ more) = hex_pair_of a b >>= λ byte. option_map (λ bytes. byte ∷ bytes) (hex_bytes_of more)
-
 -- a payload is 1 to 1,500 bytes
 abbrev pub fits_packet : List ℕ → Option (List ℕ)
 fits_packet bytes = if nat_le 1 (length bytes) && nat_le (length bytes) 1500 then Some bytes else None
 
+-- the payload that pairs of hexadecimal digits of either case spell
 abbrev pub payload_of : List ℕ → Option (List ℕ)
 payload_of text = hex_bytes_of text >>= fits_packet

@@ -1,6 +1,7 @@
 //! The report of a run.
 ghost use Rattle.std.specs.Prelude.{◌≡◌, ◌++◌, ◌∷◌, [], length, take, string_bytes, IfOk, OnOk};
-ghost use Rattle.neigh_run.specs.Text.{line_text, lines_text, hex};
+ghost use Rattle.text_codes.specs.HexText.{hex_text};
+ghost use Rattle.text_codes.specs.Lines.{line_text, text_of};
 ghost use Rattle.neigh_run.specs.Spelling.{host_words};
 ghost use Rattle.neigh_run.specs.Report.{report_text};
 ghost use Rattle.neigh_replay.specs.FirstRun.{run_of};
@@ -28,7 +29,7 @@ pub fn report(alloc: Global, path: &FirstPath) -> Result<String, AllocError>
 }
 
 fn report_alone(alloc: Global, host: &Host) -> Result<String, AllocError>
-    ensures { IfOk result (λ report. string_bytes report ≡ lines_text (first.report_alone host.now)) }
+    ensures { IfOk result (λ report. string_bytes report ≡ text_of (first.report_alone host.now)) }
 {
     let mut report = String::new(alloc);
     write_top(&mut report, host)?;
@@ -42,7 +43,7 @@ fn report_alone(alloc: Global, host: &Host) -> Result<String, AllocError>
 }
 
 fn report_entry(alloc: Global, host: &Host, added: &Added) -> Result<String, AllocError>
-    ensures { IfOk result (λ report. string_bytes report ≡ lines_text (first.report_entry host.now added.now)) }
+    ensures { IfOk result (λ report. string_bytes report ≡ text_of (first.report_entry host.now added.now)) }
 {
     let mut report = String::new(alloc);
     write_top(&mut report, host)?;
@@ -57,7 +58,7 @@ fn report_packet(
     added: &Added,
     sending: &Sending,
 ) -> Result<String, AllocError>
-    ensures { IfOk result (λ report. string_bytes report ≡ lines_text (first.report_packet host.now added.now sending.now)) }
+    ensures { IfOk result (λ report. string_bytes report ≡ text_of (first.report_packet host.now added.now sending.now)) }
 {
     let mut report = String::new(alloc);
     write_top(&mut report, host)?;
@@ -68,7 +69,7 @@ fn report_packet(
 }
 
 fn write_top(report: &mut String, host: &Host) -> Result<(), AllocError>
-    ensures { OnOk result (string_bytes report.new ≡ string_bytes report.old ++ lines_text (first.top host.now)) }
+    ensures { OnOk result (string_bytes report.new ≡ string_bytes report.old ++ text_of (first.top host.now)) }
 {
     write_head(report, 1, 1, 50)?;
     write_host(report, host)?;
@@ -76,7 +77,7 @@ fn write_top(report: &mut String, host: &Host) -> Result<(), AllocError>
 }
 
 fn write_entry_lines(report: &mut String, added: &Added) -> Result<(), AllocError>
-    ensures { OnOk result (string_bytes report.new ≡ string_bytes report.old ++ lines_text (first.entry_lines added.now)) }
+    ensures { OnOk result (string_bytes report.new ≡ string_bytes report.old ++ text_of (first.entry_lines added.now)) }
 {
     write_bucket(report, 1)?;
     write_add(report, added)?;
@@ -92,7 +93,7 @@ fn write_packet_journal(
     added: &Added,
     sending: &Sending,
 ) -> Result<(), AllocError>
-    ensures { OnOk result (string_bytes report.new ≡ string_bytes report.old ++ lines_text (first.packet_journal host.now added.now sending.now)) }
+    ensures { OnOk result (string_bytes report.new ≡ string_bytes report.old ++ text_of (first.packet_journal host.now added.now sending.now)) }
 {
     write_bucket(report, 2)?;
     write_add(report, added)?;
@@ -106,7 +107,7 @@ fn write_packet_lines(
     added: &Added,
     sending: &Sending,
 ) -> Result<(), AllocError>
-    ensures { OnOk result (string_bytes report.new ≡ string_bytes report.old ++ lines_text (first.packet_lines added.now sending.now)) }
+    ensures { OnOk result (string_bytes report.new ≡ string_bytes report.old ++ text_of (first.packet_lines added.now sending.now)) }
 {
     write_host_lines(report, 1)?;
     write_neigh(report, added)?;
@@ -121,7 +122,7 @@ fn write_bottom(
     host: &Host,
     added: &Added,
 ) -> Result<(), AllocError>
-    ensures { OnOk result (string_bytes report.new ≡ string_bytes report.old ++ lines_text (first.bottom sent host.now added.now)) }
+    ensures { OnOk result (string_bytes report.new ≡ string_bytes report.old ++ text_of (first.bottom sent host.now added.now)) }
 {
     write_fates(report, sent)?;
     write_entries(report, 1)?;
@@ -130,7 +131,7 @@ fn write_bottom(
     Ok(())
 }
 
-#[tactic(auto, unfolding(neigh_run::specs::Text::line_text))]
+#[tactic(auto, unfolding(text_codes::specs::Lines::line_text))]
 fn write_head(
     report: &mut String,
     buckets: u32,
@@ -145,7 +146,7 @@ fn write_head(
     Ok(())
 }
 
-#[tactic(auto, unfolding(neigh_run::specs::Text::line_text))]
+#[tactic(auto, unfolding(text_codes::specs::Lines::line_text))]
 fn write_host(report: &mut String, host: &Host) -> Result<(), AllocError>
     ensures { OnOk result (string_bytes report.new ≡ string_bytes report.old ++ line_text (host_words host.now)) }
 {
@@ -159,7 +160,7 @@ fn write_host(report: &mut String, host: &Host) -> Result<(), AllocError>
     report.push('\n')
 }
 
-#[tactic(auto, unfolding(neigh_run::specs::Text::line_text))]
+#[tactic(auto, unfolding(text_codes::specs::Lines::line_text))]
 fn write_bucket(report: &mut String, lines: u32) -> Result<(), AllocError>
     ensures { OnOk result (string_bytes report.new ≡ string_bytes report.old ++ line_text (first.bucket lines)) }
 {
@@ -168,7 +169,7 @@ fn write_bucket(report: &mut String, lines: u32) -> Result<(), AllocError>
     Ok(())
 }
 
-#[tactic(auto, unfolding(neigh_run::specs::Text::line_text))]
+#[tactic(auto, unfolding(text_codes::specs::Lines::line_text))]
 fn write_add(report: &mut String, added: &Added) -> Result<(), AllocError>
     ensures { OnOk result (string_bytes report.new ≡ string_bytes report.old ++ line_text (first.add_words added.now)) }
 {
@@ -182,7 +183,7 @@ fn write_add(report: &mut String, added: &Added) -> Result<(), AllocError>
     Ok(())
 }
 
-#[tactic(auto, unfolding(neigh_run::specs::Text::line_text))]
+#[tactic(auto, unfolding(text_codes::specs::Lines::line_text))]
 fn write_send(report: &mut String, added: &Added, sending: &Sending) -> Result<(), AllocError>
     ensures { OnOk result (string_bytes report.new ≡ string_bytes report.old ++ line_text (first.send_words added.now sending.now)) }
 {
@@ -196,7 +197,7 @@ fn write_send(report: &mut String, added: &Added, sending: &Sending) -> Result<(
     Ok(())
 }
 
-#[tactic(auto, unfolding(neigh_run::specs::Text::line_text))]
+#[tactic(auto, unfolding(text_codes::specs::Lines::line_text))]
 fn write_frame(
     report: &mut String,
     host: &Host,
@@ -214,7 +215,7 @@ fn write_frame(
 }
 
 fn write_hex(report: &mut String, bytes: &[u8]) -> Result<(), AllocError>
-    ensures { OnOk result (string_bytes report.new ≡ string_bytes report.old ++ hex bytes.now) }
+    ensures { OnOk result (string_bytes report.new ≡ string_bytes report.old ++ hex_text bytes.now) }
 {
     for byte in bytes {
         report.push(char::from(hex_digit(*byte / 16)))?;
@@ -223,7 +224,7 @@ fn write_hex(report: &mut String, bytes: &[u8]) -> Result<(), AllocError>
     Ok(())
 }
 
-#[tactic(auto, unfolding(neigh_run::specs::Text::line_text))]
+#[tactic(auto, unfolding(text_codes::specs::Lines::line_text))]
 fn write_host_lines(report: &mut String, lines: u32) -> Result<(), AllocError>
     ensures { OnOk result (string_bytes report.new ≡ string_bytes report.old ++ line_text (first.host_lines lines)) }
 {
@@ -231,7 +232,7 @@ fn write_host_lines(report: &mut String, lines: u32) -> Result<(), AllocError>
     Ok(())
 }
 
-#[tactic(auto, unfolding(neigh_run::specs::Text::line_text))]
+#[tactic(auto, unfolding(text_codes::specs::Lines::line_text))]
 fn write_neigh(report: &mut String, added: &Added) -> Result<(), AllocError>
     ensures { OnOk result (string_bytes report.new ≡ string_bytes report.old ++ line_text (first.neigh_words added.now)) }
 {
@@ -240,7 +241,7 @@ fn write_neigh(report: &mut String, added: &Added) -> Result<(), AllocError>
     Ok(())
 }
 
-#[tactic(auto, unfolding(neigh_run::specs::Text::line_text))]
+#[tactic(auto, unfolding(text_codes::specs::Lines::line_text))]
 fn write_sender(report: &mut String, items: u32) -> Result<(), AllocError>
     ensures { OnOk result (string_bytes report.new ≡ string_bytes report.old ++ line_text (first.sender items)) }
 {
@@ -249,7 +250,7 @@ fn write_sender(report: &mut String, items: u32) -> Result<(), AllocError>
     Ok(())
 }
 
-#[tactic(auto, unfolding(neigh_run::specs::Text::line_text))]
+#[tactic(auto, unfolding(text_codes::specs::Lines::line_text))]
 fn write_outcome(report: &mut String, sending: &Sending) -> Result<(), AllocError>
     ensures { OnOk result (string_bytes report.new ≡ string_bytes report.old ++ line_text (first.log_words sending.now)) }
 {
@@ -259,7 +260,7 @@ fn write_outcome(report: &mut String, sending: &Sending) -> Result<(), AllocErro
 }
 
 // The marks, of which there are none, and the fates.
-#[tactic(auto, unfolding(neigh_run::specs::Text::line_text))]
+#[tactic(auto, unfolding(text_codes::specs::Lines::line_text))]
 fn write_fates(report: &mut String, sent: u32) -> Result<(), AllocError>
     ensures { OnOk result (string_bytes report.new ≡ string_bytes report.old ++ line_text first.marks ++ line_text (first.fates sent)) }
 {
@@ -272,7 +273,7 @@ fn write_fates(report: &mut String, sent: u32) -> Result<(), AllocError>
     Ok(())
 }
 
-#[tactic(auto, unfolding(neigh_run::specs::Text::line_text))]
+#[tactic(auto, unfolding(text_codes::specs::Lines::line_text))]
 fn write_entries(report: &mut String, entries: u32) -> Result<(), AllocError>
     ensures { OnOk result (string_bytes report.new ≡ string_bytes report.old ++ line_text (first.entries entries)) }
 {
@@ -280,7 +281,7 @@ fn write_entries(report: &mut String, entries: u32) -> Result<(), AllocError>
     Ok(())
 }
 
-#[tactic(auto, unfolding(neigh_run::specs::Text::line_text))]
+#[tactic(auto, unfolding(text_codes::specs::Lines::line_text))]
 fn write_entry(report: &mut String, host: &Host, added: &Added) -> Result<(), AllocError>
     ensures { OnOk result (string_bytes report.new ≡ string_bytes report.old ++ line_text (first.table_words host.now added.now)) }
 {
@@ -293,9 +294,9 @@ fn write_entry(report: &mut String, host: &Host, added: &Added) -> Result<(), Al
     Ok(())
 }
 
-#[tactic(auto, unfolding(neigh_run::specs::Text::line_text))]
+#[tactic(auto, unfolding(text_codes::specs::Lines::line_text))]
 fn write_end(report: &mut String) -> Result<(), AllocError>
-    ensures { OnOk result (string_bytes report.new ≡ string_bytes report.old ++ lines_text first.tail) }
+    ensures { OnOk result (string_bytes report.new ≡ string_bytes report.old ++ text_of first.tail) }
 {
     let none = 0;
     writeln!(report, "proxies {none}")?;

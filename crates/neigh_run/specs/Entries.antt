@@ -12,7 +12,7 @@ use Rattle.nb_base.specs.Address.{mac_text, key_text}
 use Rattle.nud_machine.specs.declared.entry.Entry.{Entry}
 use Rattle.nb_journal.specs.Keys.{is_key}
 use Rattle.nb_journal.specs.Fold.{state_of, known_keys}
-use Rattle.neigh_run.specs.Text.{Words}
+use Rattle.text_codes.specs.Lines.{Words}
 use Rattle.neigh_run.specs.Spelling.{state_name}
 
 abbrev pub address_words : Option Mac → Words

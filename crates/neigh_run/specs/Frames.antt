@@ -1,22 +1,16 @@
 -- Frames of packets.
-use Rattle.std.specs.Prelude.{ℕ, ◌-◌, ◌/◌, ◌%◌, List, [], ◌∷◌, ◌++◌, Option, slice_get, option_and_then}
+use Rattle.std.specs.Prelude.{ℕ, ◌-◌, ◌/◌, ◌%◌, List, [], ◌++◌, Option, slice_get, option_and_then}
 use Rattle.std.specs.Option.{option_map_or}
 use Rattle.nb_base.specs.declared.mac.Mac.{Mac}
-use Rattle.nb_base.specs.declared.key.Key.{Key}
-use Rattle.nb_base.specs.declared.key.Key.TheVariants.{V4, V6}
 use Rattle.nb_base.specs.declared.host.Host.{Host}
 use Rattle.nb_base.specs.declared.time.OpId.{OpId}
 use Rattle.nb_base.specs.declared.plan.Plan.{Plan}
 use Rattle.nb_base.specs.declared.plan.SendItem.{SendItem}
+use Rattle.nud_machine.specs.Record.{ether_type}
 
--- the Ethernet type of packets to a key: IPv4 or IPv6 (RFC 894, RFC 2464)
-abbrev pub key_type : Key → List ℕ
-key_type (V4 n) = 0x08 ∷ 0x00 ∷ []
-key_type (V6 n) = 0x86 ∷ 0xdd ∷ []
-
--- destination, source, type, and the payload without padding
+-- destination, source, the type of the key's family (RFC 894, RFC 2464), and the payload without padding
 abbrev pub frame_to : Host → Mac → SendItem → List ℕ
-frame_to host mac item = mac.0 ++ host.mac.0 ++ key_type item.key ++ item.payload
+frame_to host mac item = mac.0 ++ host.mac.0 ++ ether_type item.key ++ item.payload
 
 -- the packet that an id names: of sender `id % 32`, the item of number `id / 32`
 abbrev pub packet_of : Plan → OpId → Option SendItem

@@ -19,11 +19,11 @@ use Rattle.nb_base.specs.declared.host_line.Placed.{Placed}
 use Rattle.nb_base.specs.declared.host_line.HostLine.{HostLine}
 use Rattle.nb_base.specs.declared.host_line.HostLine.TheVariants as host_line
 use Rattle.nb_journal.specs.Keys.{is_own}
-use Rattle.nb_journal.specs.Effect.{id_of}
-use Rattle.nb_journal.specs.Reply.{reply_of}
+use Rattle.nb_journal.specs.Fold.{id_of, reply_of}
 use Rattle.nb_journal.specs.Lawful.{IsLawful, last_moment}
 use Rattle.neigh_run.specs.declared.run.Run.{Run}
-use Rattle.neigh_run.specs.Merged.{Entered, id_for, bucket_of, goes_to, merged_for}
+use Rattle.nb_base.specs.Buckets.{bucket_of}
+use Rattle.neigh_run.specs.Merged.{Entered, id_for, goes_to, merged_for}
 
 -- the lines of operations, as they were entered
 abbrev pub entered_line : Line → Entered

@@ -1,4 +1,3 @@
-pub mod Text
 pub mod Spelling
 pub mod Frames
 pub mod Merged

@@ -1,8 +1,6 @@
 -- The operations of a plan, in the order in which an inline run enters them.
-use Rattle.std.specs.Prelude.{ℕ, ◌+◌, ◌*◌, ◌%◌, Bool, true, nat_le, ◌==◌, if◌then◌else◌, List, [], ◌∷◌, ◌++◌, fold, filter, Option, Some, None}
+use Rattle.std.specs.Prelude.{ℕ, ◌+◌, ◌*◌, Bool, true, nat_le, ◌==◌, if◌then◌else◌, List, [], ◌∷◌, ◌++◌, fold, filter, Option, Some, None}
 use Rattle.std.specs.Option.{option_map_or, option_to_list}
-use Rattle.nb_base.specs.declared.key.Key.{Key}
-use Rattle.nb_base.specs.declared.key.Key.TheVariants.{V4, V6}
 use Rattle.nb_base.specs.declared.time.OpId.{OpId}
 use Rattle.nb_base.specs.declared.op.Op.{Op}
 use Rattle.nb_base.specs.declared.op.Op.TheVariants as op
@@ -10,6 +8,7 @@ use Rattle.nb_base.specs.declared.plan.Plan.{Plan}
 use Rattle.nb_base.specs.declared.plan.SendItem.{SendItem}
 use Rattle.nb_base.specs.declared.plan.ControlItem.{ControlItem}
 use Rattle.nb_base.specs.declared.plan.ControlItem.TheVariants as control
+use Rattle.nb_base.specs.Buckets.{bucket_of}
 use Rattle.nb_journal.specs.Keys.{key_of}
 
 -- an operation with its id and its item's moment
@@ -55,11 +54,6 @@ by_moment operations = fold (λ sorted x. insert x sorted) [] operations
 -- participant 0 goes first at equal moments, then the senders by number
 abbrev pub merged : Plan → List Entered
 merged plan = by_moment (control_ops 1 plan.control ++ senders_ops 1 plan.senders)
-
--- a key's bucket is the last byte of its address modulo the number of buckets (this project's own)
-abbrev pub bucket_of : ℕ → Key → ℕ
-bucket_of buckets (V4 address) = address % 256 % buckets
-bucket_of buckets (V6 address) = address % 256 % buckets
 
 -- an operation without a key is applied to each bucket
 abbrev pub goes_to : ℕ → ℕ → Op → Bool

@@ -17,10 +17,11 @@ use Rattle.nb_base.specs.declared.host_line.Mark.{Mark}
 use Rattle.nb_base.specs.declared.host_line.Placed.{Placed}
 use Rattle.nud_machine.specs.declared.act.Act.{Act}
 use Rattle.nud_machine.specs.declared.act.Act.TheVariants as act
-use Rattle.nb_journal.specs.Fold.{state_of, acts_of, known_keys}
-use Rattle.nb_journal.specs.Reply.{reply_of, is_transmit}
+use Rattle.nb_journal.specs.Fold.{state_of, known_keys, reply_of, is_transmit}
+use Rattle.nb_journal.specs.Accounts.{acts_at}
 use Rattle.neigh_run.specs.declared.run.Run.{Run}
-use Rattle.neigh_run.specs.Text.{Words, lines_text, hex}
+use Rattle.text_codes.specs.Lines.{Words, text_of}
+use Rattle.text_codes.specs.HexText.{hex_text}
 use Rattle.neigh_run.specs.Spelling.{dash, mode_word, host_words, op_words, id_text, id_word, reply_words, reply_part, cause_word, class_word, placed_words}
 use Rattle.neigh_run.specs.Frames.{sent_frame}
 use Rattle.neigh_run.specs.Entries.{entries_after, proxies_with, proxy_words}
@@ -37,20 +38,16 @@ set_in words = [] ∷ [] ∷ words
 
 -- an act's line (solicitations aren't spelled yet)
 abbrev pub act_lines : Plan → Act → List Words
-act_lines plan (act.Transmit id mac) = set_in (codes "tx" ∷ id_text id ∷ hex (sent_frame plan id mac) ∷ []) ∷ []
+act_lines plan (act.Transmit id mac) = set_in (codes "tx" ∷ id_text id ∷ hex_text (sent_frame plan id mac) ∷ []) ∷ []
 act_lines plan (act.Wait id) = set_in (codes "wait" ∷ id_text id ∷ []) ∷ []
 act_lines plan (act.Drop id why) = set_in (codes "drop" ∷ id_text id ∷ cause_word why ∷ []) ∷ []
 act_lines plan act.SolicitGroup = []
 act_lines plan (act.SolicitUnicast mac) = []
 
--- what a line does to the keys that are known behind it, by rank
-unfoldable pub line_acts : Plan → List Line → Line → List Act
-line_acts plan past line = flat_map (acts_of plan.params past line) (known_keys (past ++ line ∷ []))
-
 -- a look lists the entries; every other line has its acts
 abbrev pub lines_below : Plan → List Line → Line → Op → List Words
 lines_below plan past line op.Show = map (λ words. set_in (codes "entry" ∷ words)) (entries_after plan.host plan.params past)
-lines_below plan past line _ = flat_map (act_lines plan) (line_acts plan past line)
+lines_below plan past line _ = flat_map (act_lines plan) (acts_at plan.params past line)
 
 -- `PLACE MOMENT ID OP -> REPLY`
 abbrev pub line_words : Plan → List Line → Line → Words
@@ -73,7 +70,7 @@ queued_words (Some false) = codes "proxyfull" ∷ []
 
 abbrev pub tx_words : Option (List ℕ) → Words
 tx_words None = []
-tx_words (Some frame) = codes "tx" ∷ hex frame ∷ []
+tx_words (Some frame) = codes "tx" ∷ hex_text frame ∷ []
 
 abbrev pub op_part : Option Placed → Words
 op_part None = []
@@ -83,14 +80,14 @@ abbrev pub host_line_words : HostLine → Words
 host_line_words (host_line.Frame n at class queued tx o) = decimal n ∷ decimal at ∷ codes "frame" ∷ class_word class ∷ (queued_words queued ++ tx_words tx ++ op_part o)
 host_line_words (host_line.Neigh n at ops) = decimal n ∷ decimal at ∷ codes "neigh" ∷ flat_map placed_words ops
 host_line_words (host_line.Proxy n at r) = decimal n ∷ decimal at ∷ codes "proxy" ∷ reply_words r
-host_line_words (host_line.Answer due frame) = dash ∷ decimal due ∷ codes "answer" ∷ hex frame ∷ []
+host_line_words (host_line.Answer due frame) = dash ∷ decimal due ∷ codes "answer" ∷ hex_text frame ∷ []
 
 -- the two numbers of a try
 abbrev pub try_word : ℕ × ℕ → List ℕ
 try_word numbers = decimal numbers.0 ++ 47 ∷ decimal numbers.1
 
 abbrev pub outcome_words : SendItem → Outcome → Words
-outcome_words item (outcome.Fast number header) = codes "fast" ∷ decimal number ∷ hex (header ++ item.payload) ∷ []
+outcome_words item (outcome.Fast number header) = codes "fast" ∷ decimal number ∷ hex_text (header ++ item.payload) ∷ []
 outcome_words item (outcome.Slow why.Inline place r) = codes "inline" ∷ decimal place ∷ reply_words r
 outcome_words item (outcome.Slow why.First place r) = codes "first" ∷ decimal place ∷ reply_words r
 outcome_words item (outcome.Slow (why.Suspect number) place r) = codes "suspect" ∷ decimal number ∷ decimal place ∷ reply_words r
@@ -118,7 +115,7 @@ mark_words mark = codes "mark" ∷ start_word mark.start ∷ map decimal mark.le
 -- all acts of a journal's lines behind the past, in order
 abbrev pub journal_acts : Plan → List Line → List Line → List Act
 journal_acts plan past [] = []
-journal_acts plan past (line ∷ lines) = line_acts plan past line ++ journal_acts plan (past ++ line ∷ []) lines
+journal_acts plan past (line ∷ lines) = acts_at plan.params past line ++ journal_acts plan (past ++ line ∷ []) lines
 
 abbrev pub is_drop : Act → Bool
 is_drop (act.Drop id why) = true
@@ -170,4 +167,4 @@ report run =
     ++ (codes "end" ∷ []) ∷ [])))))))
 
 unfoldable pub report_text : Run → List ℕ
-report_text run = lines_text (report run)
+report_text run = text_of (report run)

@@ -18,7 +18,7 @@ use Rattle.nb_base.specs.declared.host_line.Placed.{Placed}
 use Rattle.nb_base.specs.Address.{mac_text, ip4_text, key_text}
 use Rattle.nud_machine.specs.declared.act.Cause.{Cause}
 use Rattle.nud_machine.specs.declared.act.Cause.TheVariants as cause
-use Rattle.neigh_run.specs.Text.{Words}
+use Rattle.text_codes.specs.Lines.{Words}
 
 abbrev pub dash : List ℕ
 dash = codes "-"

@@ -13,13 +13,17 @@ fn one_record(alloc: Global) -> Result<Vec<u8>, Fail> {
     Ok(file.to_vec(alloc)?)
 }
 
-/// The same with another byte at a place.
-fn damaged(alloc: Global, place: usize, byte: u8) -> Result<Vec<u8>, Fail> {
-    let mut file = one_record(alloc)?;
+/// That file with another byte at a place.
+fn with_byte(mut file: Vec<u8>, place: usize, byte: u8) -> Vec<u8> {
     if let Some(old) = file.get_mut(place) {
         *old = byte;
     }
-    Ok(file)
+    file
+}
+
+/// The file with one record with another byte at a place.
+fn damaged(alloc: Global, place: usize, byte: u8) -> Result<Vec<u8>, Fail> {
+    Ok(with_byte(one_record(alloc)?, place, byte))
 }
 
 /// The refusal's number and place, or none.
@@ -84,7 +88,6 @@ fn damaged_files(rt: HostRuntime) -> Result<(), Fail> {
         (7, 3, Some((3, 4))),
         (23, 113, Some((4, 20))),
         (21, 1, None),
-        (33, 4, Some((6, 24))),
         (35, 15, Some((5, 24))),
         (35, 13, Some((5, 53))),
     ];
@@ -92,6 +95,8 @@ fn damaged_files(rt: HostRuntime) -> Result<(), Fail> {
         let file = damaged(rt.alloc(), place, byte)?;
         assert_eq!(rt; refusal(rt.alloc(), &file), wanted, "at {place}");
     }
+    let one_above = with_byte(damaged(rt.alloc(), 33, 4)?, 35, 1);
+    assert_eq!(rt; refusal(rt.alloc(), &one_above), Some((6, 24)));
     Ok(())
 }
 

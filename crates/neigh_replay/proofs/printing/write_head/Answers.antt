@@ -1,5 +1,5 @@
 use Rattle.std.proofs.Common.{append_assoc}
-use Rattle.neigh_run.specs.Text.{line_text}
+use Rattle.text_codes.specs.Lines.{line_text}
 use Rattle.neigh_replay.proofs.printing.write_head.Goals as goal
 
 pub returns : goal.returns

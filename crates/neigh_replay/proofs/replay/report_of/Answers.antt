@@ -1,4 +1,4 @@
-use Rattle.std.proofs.Common.{◌≡◌, ◌∙◌, sym, ap, Option, Some, List, ℕ}
+use Rattle.std.proofs.Common.{◌≡◌, ◌∙◌, sym, ap, Some}
 use Rattle.neigh_replay.specs.FirstPath.{first_path_of}
 use Rattle.neigh_replay.specs.Replay.{IsOrdered}
 use Rattle.neigh_replay.proofs.InlineRun.{reported}

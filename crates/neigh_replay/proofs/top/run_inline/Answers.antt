@@ -1,5 +1,3 @@
-use Rattle.std.specs.Prelude.{string_bytes}
-use Rattle.neigh_replay.specs.Replay.{outside, sink_call}
 use Rattle.neigh_replay.proofs.Replays.{replay_by}
 use Rattle.neigh_replay.proofs.top.run_inline.Goals as goal
 
