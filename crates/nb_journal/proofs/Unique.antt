@@ -36,7 +36,7 @@ tail_of x y xs ys e = cc
 no_line : (x : Line) (xs : List Line) → x ∷ xs ≡ [] → ⊥
 no_line x xs e = cc
 
-own_kind : (o : Op) → is_own o ≡ true → (is_timer o ≡ false) × (is_collect o ≡ false)
+pub own_kind : (o : Op) → is_own o ≡ true → (is_timer o ≡ false) × (is_collect o ≡ false)
 own_kind (op.Timer key) e = cc
 own_kind op.Sweep e = cc
 own_kind (op.Collect key) e = cc
@@ -47,7 +47,7 @@ sweep_kind o e own = false≢true (ap is_own (sym e) ∙ own)
 
 -- ---- what comes next behind a history that ends with no collect
 
-data Next (p : Params) (past lines : List Line) : Type 0 where
+pub data Next (p : Params) (past lines : List Line) : Type 0 where
   EndsHere : lines ≡ [] → Next p past lines
   TimerAhead : (l : Line) (key : Key) (rest : List Line) → lines ≡ l ∷ rest → l.op ≡ op.Timer key → Next p past lines
   SweepAhead : (l : Line) (rest : List Line) → lines ≡ l ∷ rest → l.op ≡ op.Sweep → Next p past lines
@@ -93,7 +93,7 @@ behind_collects p base so_far past (x ∷ xs) e b some all only = by_op x.op ref
       by_op op.Sweep k more = stuck (subst (HasItsPass p past x) k all.0.pass)
       by_op o k more = ends_here (ap is_own k)
 
-next : (p : Params) (past lines : List Line) → base_of past ≡ past → each_line (Fits p) past lines → base_of (past ++ lines) ≡ past ++ lines → Next p past lines
+pub next : (p : Params) (past lines : List Line) → base_of past ≡ past → each_line (Fits p) past lines → base_of (past ++ lines) ≡ past ++ lines → Next p past lines
 next p past [] b all only = EndsHere refl
 next p past (x ∷ xs) b all only = by_op x.op refl where
   own : OwnBehind p past (x ∷ xs) → Next p past (x ∷ xs)
@@ -112,7 +112,7 @@ next p past (x ∷ xs) b all only = by_op x.op refl where
 
 -- ---- what forces the next line
 
-each_behind : (p : Params) (past lines : List Line) (clock : ℕ) → IsLawful p (past ++ lines) clock → each_line (Fits p) past lines
+pub each_behind : (p : Params) (past lines : List Line) (clock : ℕ) → IsLawful p (past ++ lines) clock → each_line (Fits p) past lines
 each_behind p past lines clock lawful = each-behind (Fits p) past lines (lawful-runs p (past ++ lines) clock lawful).each
 
 within_clock : (p : Params) (past rest : List Line) (l : Line) (clock : ℕ) → IsLawful p (past ++ l ∷ rest) clock → l.at ≤ clock
@@ -155,18 +155,18 @@ no_sum m n a b = omega (arith, a, b)
 timer_due : (p : Params) (past rest : List Line) (l : Line) (key : Key) (clock : ℕ) → IsLawful p (past ++ l ∷ rest) clock → l.op ≡ op.Timer key → IsNextDue p past key l.at
 timer_due p past rest l key clock lawful e = subst (IsTimersTurn p past l.at) e (each_behind p past (l ∷ rest) clock lawful).0.timer
 
-nil_timer : (p : Params) (past rest : List Line) (l : Line) (key : Key) (clock : ℕ) → IsLawful p past clock → IsLawful p (past ++ l ∷ rest) clock → l.op ≡ op.Timer key → ⊥
+pub nil_timer : (p : Params) (past rest : List Line) (l : Line) (key : Key) (clock : ℕ) → IsLawful p past clock → IsLawful p (past ++ l ∷ rest) clock → l.op ≡ op.Timer key → ⊥
 nil_timer p past rest l key clock short long e =
     let due = (timer_due p past rest l key clock long e).due in
     no_sum clock l.at (dues_from-nothing_due p past clock short.none_left key l.at due) (within_clock p past rest l clock long)
 
-nil_sweep : (p : Params) (past rest : List Line) (l : Line) (clock : ℕ) → IsLawful p past clock → IsLawful p (past ++ l ∷ rest) clock → l.op ≡ op.Sweep → ⊥
+pub nil_sweep : (p : Params) (past rest : List Line) (l : Line) (clock : ℕ) → IsLawful p past clock → IsLawful p (past ++ l ∷ rest) clock → l.op ≡ op.Sweep → ⊥
 nil_sweep p past rest l clock short long e =
     let s = sweep_facts p past rest l clock long e in
     let has = (short.sweeps l.at s.0 (within_clock p past rest l clock long)).1 (subst (IsCrowded p) s.2 s.3) in
     no_line (sweep_line l.at) has.0 (sym (cancel past [] (sweep_line l.at ∷ has.0) (append-nil past ∙ has.1 ∙ ap (λ (xs : List Line). xs ++ sweep_line l.at ∷ has.0) (sym s.2))))
 
-timer_sweep : (p : Params) (past ra rb : List Line) (l m : Line) (key : Key) (clock : ℕ) → InRange p → IsLawful p (past ++ l ∷ ra) clock → IsLawful p (past ++ m ∷ rb) clock → l.op ≡ op.Timer key → m.op ≡ op.Sweep → ⊥
+pub timer_sweep : (p : Params) (past ra rb : List Line) (l m : Line) (key : Key) (clock : ℕ) → InRange p → IsLawful p (past ++ l ∷ ra) clock → IsLawful p (past ++ m ∷ rb) clock → l.op ≡ op.Timer key → m.op ≡ op.Sweep → ⊥
 timer_sweep p past ra rb l m key clock r la lb e f =
     let due = (timer_due p past ra l key clock la e).due in
     let s = sweep_facts p past rb m clock lb f in
@@ -175,13 +175,13 @@ timer_sweep p past ra rb l m key clock r la lb e f =
     false≢true (sym (ap (λ (x : Line). is_timer x.op) same) ∙ ap is_timer e)
 
 -- the first line of an operation and its collects
-abbrev Head : List Line → Line → Type 0
+abbrev pub Head : List Line → Line → Type 0
 Head lines w = (h : Line) × (t : List Line) × (lines ≡ h ∷ t) × (h.at ≡ w.at) × (is_timer h.op ≡ false) × (h.op ≡ op.Sweep → ⊥)
 
 collect_sweep : (key : Key) → op.Collect key ≡ op.Sweep → ⊥
 collect_sweep key e = false≢true (ap is_collect (sym e))
 
-head : (p : Params) (past rest : List Line) (w : Line) → is_own w.op ≡ true → Head (collects p past w ++ w ∷ rest) w
+pub head : (p : Params) (past rest : List Line) (w : Line) → is_own w.op ≡ true → Head (collects p past w ++ w ∷ rest) w
 head p past rest w own = let keys = collects_keys p past w in subst (λ (xs : List Line). Head (xs ++ w ∷ rest) w) (sym keys.1) (of_keys keys.0) where
   of_keys : (keys : List Key) → Head (map (collect_line w.at) keys ++ w ∷ rest) w
   of_keys [] = (w, rest, refl, refl, (own_kind w.op own).0, λ e. sweep_kind w.op e own)
@@ -193,7 +193,7 @@ behind_own p past rest l w ws clock lawful e =
     let at = last_moment-snoc past l in
     omega (arith, later, at)
 
-timer_own : (p : Params) (past ra b : List Line) (l w : Line) (ws : List Line) (key : Key) (clock : ℕ) → IsLawful p (past ++ l ∷ ra) clock → IsLawful p (past ++ b) clock → l.op ≡ op.Timer key → Head b w → own_lines ra ≡ w ∷ ws → ⊥
+pub timer_own : (p : Params) (past ra b : List Line) (l w : Line) (ws : List Line) (key : Key) (clock : ℕ) → IsLawful p (past ++ l ∷ ra) clock → IsLawful p (past ++ b) clock → l.op ≡ op.Timer key → Head b w → own_lines ra ≡ w ∷ ws → ⊥
 timer_own p past ra b l w ws key clock la lb e h owns =
     let due = (timer_due p past ra l key clock la e).due in
     let lawful = subst (λ (xs : List Line). IsLawful p (past ++ xs) clock) h.2 lb in
@@ -202,7 +202,7 @@ timer_own p past ra b l w ws key clock la lb e h owns =
     let at = h.3 in
     no_sum h.0.at l.at later (omega (arith, le, at))
 
-sweep_own : (p : Params) (past ra b : List Line) (l w : Line) (ws : List Line) (clock : ℕ) → InRange p → IsLawful p (past ++ l ∷ ra) clock → IsLawful p (past ++ b) clock → l.op ≡ op.Sweep → Head b w → own_lines ra ≡ w ∷ ws → ⊥
+pub sweep_own : (p : Params) (past ra b : List Line) (l w : Line) (ws : List Line) (clock : ℕ) → InRange p → IsLawful p (past ++ l ∷ ra) clock → IsLawful p (past ++ b) clock → l.op ≡ op.Sweep → Head b w → own_lines ra ≡ w ∷ ws → ⊥
 sweep_own p past ra b l w ws clock r la lb e h owns =
     let s = sweep_facts p past ra l clock la e in
     let lawful = subst (λ (xs : List Line). IsLawful p (past ++ xs) clock) h.2 lb in
@@ -246,7 +246,7 @@ timer_line_is p past rest l key clock lawful e =
     let fits = (each_behind p past (l ∷ rest) clock lawful).0 in
     line_is l (op.Timer key) e (no_id l.id (fits.id ∙ ap is_own e)) (fits.full ∙ own-full p past l (ap is_own e))
 
-timer_timer : (p : Params) (past ra rb : List Line) (l m : Line) (key other : Key) (clock : ℕ) → IsLawful p (past ++ l ∷ ra) clock → IsLawful p (past ++ m ∷ rb) clock → l.op ≡ op.Timer key → m.op ≡ op.Timer other → l ≡ m
+pub timer_timer : (p : Params) (past ra rb : List Line) (l m : Line) (key other : Key) (clock : ℕ) → IsLawful p (past ++ l ∷ ra) clock → IsLawful p (past ++ m ∷ rb) clock → l.op ≡ op.Timer key → m.op ≡ op.Timer other → l ≡ m
 timer_timer p past ra rb l m key other clock la lb e f =
     let x = timer_due p past ra l key clock la e in
     let y = timer_due p past rb m other clock lb f in
@@ -256,7 +256,7 @@ timer_timer p past ra rb l m key other clock la lb e f =
     let one = one_place (known_keys past) key other (known_due p past key l.at x.due) (both_ways (rank_of past key) (rank_of past other) (x.first other dues) (y.first key due)) in
     timer_line_is p past ra l key clock la e ∙ (λ i. timer_line (at i) (one i)) ∙ sym (timer_line_is p past rb m other clock lb f)
 
-sweep_sweep : (p : Params) (past ra rb : List Line) (l m : Line) (clock : ℕ) → InRange p → IsLawful p (past ++ l ∷ ra) clock → IsLawful p (past ++ m ∷ rb) clock → l.op ≡ op.Sweep → m.op ≡ op.Sweep → l ≡ m
+pub sweep_sweep : (p : Params) (past ra rb : List Line) (l m : Line) (clock : ℕ) → InRange p → IsLawful p (past ++ l ∷ ra) clock → IsLawful p (past ++ m ∷ rb) clock → l.op ≡ op.Sweep → m.op ≡ op.Sweep → l ≡ m
 sweep_sweep p past ra rb l m clock r la lb e f =
     let x = sweep_facts p past ra l clock la e in
     let y = sweep_facts p past rb m clock lb f in
@@ -274,10 +274,10 @@ own_of_collects at (key ∷ keys) lines = own_of_collects at keys lines
 own_first : (l : Line) (rest : List Line) → is_own l.op ≡ true → own_lines (l ∷ rest) ≡ l ∷ own_lines rest
 own_first l rest e = rw e refl
 
-own_skip : (l : Line) (rest : List Line) → is_own l.op ≡ false → own_lines (l ∷ rest) ≡ own_lines rest
+pub own_skip : (l : Line) (rest : List Line) → is_own l.op ≡ false → own_lines (l ∷ rest) ≡ own_lines rest
 own_skip l rest e = rw e refl
 
-own_ahead : (p : Params) (past rest : List Line) (w : Line) → is_own w.op ≡ true → own_lines (collects p past w ++ w ∷ rest) ≡ w ∷ own_lines rest
+pub own_ahead : (p : Params) (past rest : List Line) (w : Line) → is_own w.op ≡ true → own_lines (collects p past w ++ w ∷ rest) ≡ w ∷ own_lines rest
 own_ahead p past rest w own =
     let keys = collects_keys p past w in
     ap (λ (xs : List Line). own_lines (xs ++ w ∷ rest)) keys.1 ∙ own_of_collects w.at keys.0 (w ∷ rest) ∙ own_first w rest own
@@ -287,7 +287,7 @@ own_ahead p past rest w own =
 abbrev Same : Params → ℕ → ℕ → Type 0
 Same p clock n = (past a b : List Line) → length a < n → base_of past ≡ past → IsLawful p (past ++ a) clock → IsLawful p (past ++ b) clock → own_lines a ≡ own_lines b → a ≡ b
 
-shorter : (seg ra : List Line) (l : Line) (n : ℕ) → length (seg ++ l ∷ ra) < suc n → length ra < n
+pub shorter : (seg ra : List Line) (l : Line) (n : ℕ) → length (seg ++ l ∷ ra) < suc n → length ra < n
 shorter seg ra l n h = let e = length-append seg (l ∷ ra) in omega (arith, e, h)
 
 -- the first lines are one, and the rest by what is known of shorter lists

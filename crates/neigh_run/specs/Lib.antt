@@ -4,3 +4,5 @@ pub mod Merged
 pub mod Inline
 pub mod Entries
 pub mod Report
+pub mod Plan
+pub mod Laws

@@ -1,0 +1,61 @@
+-- The definitions at samples: the merged order, the ids, and the packets that ids name.
+use Rattle.std.proofs.Common.{◌≡◌, ℕ, ◌+◌, ◌-◌, ◌*◌, ◌/◌, ◌%◌, ◌<◌, ◌≤◌, true, false, List, [], ◌∷◌, map, Some, None, refl, arith}
+use Rattle.std.specs.Prelude.{codes, slice_get, option_and_then}
+use Rattle.nb_base.specs.declared.key.Key.{Key}
+use Rattle.nb_base.specs.declared.key.Key.TheVariants.{V4}
+use Rattle.nb_base.specs.declared.op.Op.TheVariants as op
+use Rattle.nb_base.specs.declared.plan.Plan.{Plan}
+use Rattle.nb_base.specs.declared.plan.SendItem.{SendItem}
+use Rattle.nb_base.specs.declared.plan.ControlItem.TheVariants as control
+use Rattle.nb_base.specs.Params.{default_params}
+use Rattle.nb_journal.specs.Keys.{is_key}
+use Rattle.neigh_run.specs.Merged.{Entered, id_for, merged}
+use Rattle.neigh_run.specs.Frames.{packet_of, sent_frame}
+use Rattle.neigh_run.specs.Entries.{proxies_with}
+
+-- the id of a packet names it: of sender p the item of number n
+packet-named : (plan : Plan) (p n : ℕ) → p < 32 → 1 ≤ n → packet_of plan (id_for p n) ≡ option_and_then (λ items. slice_get items (n - 1)) (slice_get plan.senders (p - 1))
+packet-named plan p n small some =
+    let item : (32 * n + p) / 32 ≡ n = omega arith in
+    let sender : (32 * n + p) % 32 ≡ p = omega arith in
+    rw (item, sender) refl
+
+abbrev one : Key
+one = V4 0x0a000001
+
+abbrev two : Key
+two = V4 0x0a000002
+
+abbrev send : ℕ → Key → SendItem
+send at key = record { at = at; key = key; payload = 7 ∷ [] }
+
+-- a look at 5, and one sender with packets at 5 and 7, another with packets at 3 and 5
+abbrev sample : Plan
+sample = record {
+  host = record { dev = codes "eth0"; mac = record { 0 = 2 ∷ 0 ∷ 0 ∷ 0 ∷ 0 ∷ 2 ∷ [] }; ip4 = Some 0x0a000003; ip6 = None };
+  params = default_params;
+  buckets = 2;
+  window = 50;
+  control = control.Neigh 5 op.Show ∷ control.Proxy 6 one true ∷ control.Neigh 6 (op.Del two) ∷ [];
+  senders = (send 5 one ∷ send 7 two ∷ []) ∷ (send 3 two ∷ send 5 two ∷ []) ∷ [];
+}
+
+abbrev numbers : List Entered → List ℕ
+numbers operations = map (λ (x : Entered). x.id.0) operations
+
+-- by moment, at equal moments participant 0 first and then the senders by number; a proxy line counts as an item and has no operation
+merged-row : numbers (merged sample) ≡ 34 ∷ 32 ∷ 33 ∷ 66 ∷ 96 ∷ 65 ∷ []
+merged-row = refl
+
+-- a frame goes from the host to the address, has the type of IPv4 and the payload as it is
+frame-row : sent_frame sample (record { 0 = 65 }) (record { 0 = 2 ∷ 0 ∷ 0 ∷ 0 ∷ 0 ∷ 9 ∷ [] }) ≡ 2 ∷ 0 ∷ 0 ∷ 0 ∷ 0 ∷ 9 ∷ 2 ∷ 0 ∷ 0 ∷ 0 ∷ 0 ∷ 2 ∷ 8 ∷ 0 ∷ 7 ∷ []
+frame-row = refl
+
+-- a proxy entry that is added again keeps its place, and one that is added behind its deletion goes last
+proxies-again : proxies_with (one ∷ two ∷ []) (control.Proxy 9 one true) ≡ one ∷ two ∷ []
+unfolding is_key
+proxies-again = refl
+
+proxies-last : proxies_with (proxies_with (one ∷ two ∷ []) (control.Proxy 9 one false)) (control.Proxy 9 one true) ≡ two ∷ one ∷ []
+unfolding is_key
+proxies-last = refl

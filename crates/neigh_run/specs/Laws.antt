@@ -1,0 +1,36 @@
+-- The laws of runs and of their reports.
+use Rattle.std.specs.Prelude.{◌≡◌, true, false, List}
+use Rattle.std.specs.List.{AllByRecursion}
+use Rattle.nb_base.specs.declared.line.Line.{Line}
+use Rattle.nb_base.specs.declared.plan.Plan.{Plan}
+use Rattle.nb_base.specs.Name.{is_name}
+use Rattle.nb_base.specs.Params.{InRange}
+use Rattle.text_codes.specs.Lines.{is_set_in, rows_of}
+use Rattle.neigh_run.specs.declared.run.Run.{Run}
+use Rattle.neigh_run.specs.Inline.{IsInlineRun}
+use Rattle.neigh_run.specs.Report.{lines_below, line_words, report, report_text}
+
+-- a plan has at most one inline run
+abbrev pub InlineRunsAreOne : Type 0
+InlineRunsAreOne = (plan : Plan) (run other : Run) → InRange plan.params → IsInlineRun plan run → IsInlineRun plan other → run ≡ other
+
+-- two inline runs of a plan with one text are one, as there is no second one
+abbrev pub TextsTellInlineRuns : Type 0
+TextsTellInlineRuns = (plan : Plan) (run other : Run) → InRange plan.params → IsInlineRun plan run → IsInlineRun plan other → report_text run ≡ report_text other → run ≡ other
+
+-- the host's device has a name, as every host of the type has one
+abbrev pub IsNamed : Run → Type 0
+IsNamed run = is_name run.plan.host.dev ≡ true
+
+-- the text of a report gives its lines back: splitting at LF and at the space undoes joining
+abbrev pub ReportsGiveTheirLinesBack : Type 0
+ReportsGiveTheirLinesBack = (run : Run) → IsNamed run → rows_of (report_text run) ≡ report run
+
+-- two runs with one text have one report
+abbrev pub TextsTellReports : Type 0
+TextsTellReports = (run other : Run) → IsNamed run → IsNamed other → report_text run ≡ report_text other → report run ≡ report other
+
+-- in a journal only what stands below a line begins with a space: its acts, or the entries that a look lists
+pub record OnlyBelowIsSetIn : Type 0 where
+  pub below : (plan : Plan) (past : List Line) (line : Line) → AllByRecursion (λ row. is_set_in row ≡ true) (lines_below plan past line line.op)
+  pub line : (plan : Plan) (past : List Line) (line : Line) → is_set_in (line_words plan past line) ≡ false

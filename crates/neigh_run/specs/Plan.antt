@@ -1,0 +1,161 @@
+-- What a script asks of a run, and the plans that are plain.
+use Rattle.std.specs.Prelude.{ℕ, zero, suc, ◌+◌, ◌≤◌, map, Bool, true, false, ◌&&◌, ◌==◌, nat_le, if◌then◌else◌, List, [], ◌∷◌, ◌++◌, flat_map, length, Some}
+use Rattle.std.specs.List.{list_any, list_all}
+use Rattle.nb_base.specs.declared.key.Key.{Key}
+use Rattle.nb_base.specs.declared.key.Key.TheVariants.{V4, V6}
+use Rattle.nb_base.specs.declared.nud.Nud.TheVariants as nud
+use Rattle.nb_base.specs.declared.op.Op.{Op}
+use Rattle.nb_base.specs.declared.op.Op.TheVariants as op
+use Rattle.nb_base.specs.declared.params.Params.{Params}
+use Rattle.nb_base.specs.Params.{default_params}
+use Rattle.nb_base.specs.declared.plan.Plan.{Plan}
+use Rattle.nb_base.specs.declared.plan.SendItem.{SendItem}
+use Rattle.nb_base.specs.declared.plan.ControlItem.{ControlItem}
+use Rattle.nb_base.specs.declared.plan.ControlItem.TheVariants as control
+use Rattle.neigh_script.specs.declared.script.Script.{Script}
+use Rattle.neigh_script.specs.declared.script.ScriptItem.{ScriptItem}
+use Rattle.neigh_script.specs.declared.script.ScriptItem.TheVariants as item
+use Rattle.neigh_script.specs.Context.{at_of}
+use Rattle.nb_journal.specs.Keys.{is_key}
+use Rattle.neigh_run.specs.Merged.{Entered, merged}
+
+-- ---- the plan of a script (this project's own)
+
+-- a line that operates on the table, or adds or deletes a proxy entry, is an item of participant 0
+abbrev pub control_of : ScriptItem → List ControlItem
+control_of (item.Neigh at o) = control.Neigh at o ∷ []
+control_of (item.Proxy at key add) = control.Proxy at key add ∷ []
+control_of (item.Send at sender key payload) = []
+
+-- participant 0's items, in the order of their lines
+abbrev pub control_items : List ScriptItem → List ControlItem
+control_items items = flat_map control_of items
+
+-- a line that sends a packet is an item of the sender that it names
+abbrev pub sent_by : ℕ → ScriptItem → List SendItem
+sent_by k (item.Neigh at o) = []
+sent_by k (item.Proxy at key add) = []
+sent_by k (item.Send at sender key payload) = if sender == k then record { at = at; key = key; payload = payload } ∷ [] else []
+
+-- a sender's packets, in the order of their lines
+abbrev pub sends_of : ℕ → List ScriptItem → List SendItem
+sends_of k items = flat_map (sent_by k) items
+
+-- the packets of so many senders, of which the first has this number
+abbrev pub senders_from : ℕ → ℕ → List ScriptItem → List (List SendItem)
+senders_from k zero items = []
+senders_from k (suc n) items = sends_of k items ∷ senders_from (k + 1) n items
+
+-- the plan of a script alone, with a window and a number of buckets; senders are counted from 1
+unfoldable pub plan_of : Script → ℕ → ℕ → Plan
+plan_of script window buckets = record {
+  host = script.host;
+  params = script.params;
+  buckets = buckets;
+  window = window;
+  control = control_items script.items;
+  senders = senders_from 1 script.senders script.items;
+}
+
+-- ---- plain plans (this project's own): permanent entries are added, and packets go to them
+
+abbrev pub has_default_thresholds : Params → Bool
+has_default_thresholds p = p.gc_thresh1 == default_params.gc_thresh1 && p.gc_thresh2 == default_params.gc_thresh2 && p.gc_thresh3 == default_params.gc_thresh3
+
+abbrev pub has_default_times : Params → Bool
+has_default_times p =
+    p.gc_interval == default_params.gc_interval && p.gc_stale_time == default_params.gc_stale_time && p.locktime == default_params.locktime
+    && p.retrans_time == default_params.retrans_time && p.base_reachable_time == default_params.base_reachable_time
+    && p.delay_first_probe_time == default_params.delay_first_probe_time && p.proxy_delay == default_params.proxy_delay
+
+abbrev pub has_default_counts : Params → Bool
+has_default_counts p =
+    p.mcast_solicit == default_params.mcast_solicit && p.ucast_solicit == default_params.ucast_solicit
+    && p.proxy_qlen == default_params.proxy_qlen && p.unres_qlen == default_params.unres_qlen
+
+-- every parameter has its default
+abbrev pub has_defaults : Params → Bool
+has_defaults p = has_default_thresholds p && has_default_times p && has_default_counts p
+
+-- `neigh add` of an IPv4 address, with a link address and the state permanent
+abbrev pub is_plain_op : Op → Bool
+is_plain_op (op.Add (V4 address) (Some mac) nud.Permanent) = true
+is_plain_op _ = false
+
+abbrev pub is_plain_add : ControlItem → Bool
+is_plain_add (control.Neigh at o) = is_plain_op o
+is_plain_add (control.Frame at bytes) = false
+is_plain_add (control.Proxy at key add) = false
+
+-- a packet to an IPv4 address
+abbrev pub is_ip4 : Key → Bool
+is_ip4 (V4 address) = true
+is_ip4 (V6 address) = false
+
+abbrev pub is_plain_send : SendItem → Bool
+is_plain_send item = is_ip4 item.key
+
+-- `neigh add` of this key
+abbrev pub adds : Key → Op → Bool
+adds key (op.Add other mac nud) = is_key other key
+adds key _ = false
+
+-- among the operations is an `add` of the key
+abbrev pub is_added : List Entered → Key → Bool
+is_added past key = list_any (λ entered. adds key entered.op) past
+
+-- a send has an `add` of its key among the operations before it
+abbrev pub finds_its_add : List Entered → Op → Bool
+finds_its_add past (op.Send key) = is_added past key
+finds_its_add past _ = true
+
+-- and so has each send behind the past
+abbrev pub each_finds_its_add : List Entered → List Entered → Bool
+each_finds_its_add past [] = true
+each_finds_its_add past (x ∷ xs) = finds_its_add past x.op && each_finds_its_add (past ++ x ∷ []) xs
+
+-- every parameter has its default, participant 0's items are at most 127 such `add`s, and every packet goes to an IPv4 address
+abbrev pub has_plain_items : Plan → Bool
+has_plain_items plan =
+    has_defaults plan.params && list_all is_plain_add plan.control && nat_le (length plan.control) 127
+    && list_all (λ items. list_all is_plain_send items) plan.senders
+
+-- and in merged order every send has an `add` of its key before it
+unfoldable pub is_plain : Plan → Bool
+is_plain plan = has_plain_items plan && each_finds_its_add [] (merged plan)
+
+-- ---- plans within the limits of a script
+
+-- no moment lies before the one before it, nor the first before this one
+abbrev pub RisesFrom : ℕ → List ℕ → Type 0
+RisesFrom m [] = Unit {0}
+RisesFrom m (at ∷ moments) = (m ≤ at) × RisesFrom at moments
+
+abbrev pub control_at : ControlItem → ℕ
+control_at (control.Frame at bytes) = at
+control_at (control.Neigh at o) = at
+control_at (control.Proxy at key add) = at
+
+abbrev pub send_at : SendItem → ℕ
+send_at item = item.at
+
+-- the moments of a participant's items: by moment, and no more than a script has lines
+pub record IsList (moments : List ℕ) : Type 0 where
+  pub rises : RisesFrom 0 moments
+  pub few : length moments ≤ 131_072
+
+-- of each sender
+abbrev pub AreLists : List (List SendItem) → Type 0
+AreLists [] = Unit {0}
+AreLists (items ∷ senders) = IsList (map send_at items) × AreLists senders
+
+-- each participant's items are by moment and no more than a script has lines, and there are at most 16 senders
+pub record IsWithinLimits (plan : Plan) : Type 0 where
+  pub control : IsList (map control_at plan.control)
+  pub senders : AreLists plan.senders
+  pub few : length plan.senders ≤ 16
+
+-- the items of a script are by moment and no more than it has lines, and there are at most 16 senders
+pub record IsScriptWithinLimits (script : Script) : Type 0 where
+  pub items : IsList (map at_of script.items)
+  pub few : script.senders ≤ 16
