@@ -1,29 +1,35 @@
 -- From what each status says to the whole of a replay.
-use Rattle.std.proofs.Common.{◌≡◌, ◌≢◌, ℕ, ◌<◌, ◌≤◌, true, false, List, [], ◌∷◌, length, Option, Some, None, refl, subst, arith, inl, inr}
-use Rattle.std.specs.Prelude.{IfSome, IsSome}
+use Rattle.std.proofs.Common.{◌≡◌, ◌≢◌, ℕ, ◌<◌, ◌≤◌, Bool, true, false, List, [], ◌∷◌, length, Option, Some, None, refl, sym, ap, subst, ◌∙◌, arith, inl, inr}
+use Rattle.std.specs.Prelude.{Result, Ok, Err, IfSome}
 use Rattle.std.proofs.lemmas.Bool.Decides.{eqb_tells}
-use Rattle.neigh_replay.specs.declared.first_path.FirstPath.{FirstPath}
-use Rattle.neigh_replay.specs.FirstPath.{first_path_of}
-use Rattle.neigh_replay.specs.Status.{IsOneOf, line_of, line_for}
-use Rattle.neigh_replay.specs.Command.{script_named}
-use Rattle.neigh_replay.specs.Replay.{script_limit, IsReportOf, WritesReport, WritesPart, Outside, IsUntouched, SinkSays, SinkFailed, NameFailed, IsReplay, IsCommand}
+use Rattle.neigh_script.specs.declared.script.Script.{Script}
+use Rattle.neigh_script.specs.declared.why.ScriptWhy.{ScriptWhy}
+use Rattle.neigh_script.specs.declared.why.ScriptFail.{ScriptFail}
+use Rattle.neigh_script.specs.Lines.{script_of}
+use Rattle.neigh_run.specs.Plan.{plan_of, is_plain}
+use Rattle.neigh_replay.specs.Settings.{Asked, asked}
+use Rattle.neigh_replay.specs.Status.{IsOneOf, line_of, line_for, usage_line}
+use Rattle.neigh_replay.specs.Replay.{script_limit, IsPlainText, IsOtherText, IsRefusedText, IsReportOf, WritesReport, WritesPart, Outside, IsUntouched, SinkSays, SinkFailed, NameFailed, IsRefusal, IsReplay, IsCommand}
 
 -- what holds of each answer holds of the status
-by_status : (P : ℕ → Type 0) (status : ℕ) → IsOneOf (0 ∷ 1 ∷ 3 ∷ 6 ∷ 8 ∷ 9 ∷ []) status → P 0 → P 1 → P 3 → P 6 → P 8 → P 9 → P status
-by_status P status h p0 p1 p3 p6 p8 p9 =
+by_status : (P : ℕ → Type 0) (status : ℕ) → IsOneOf (0 ∷ 1 ∷ 3 ∷ 5 ∷ 6 ∷ 8 ∷ 9 ∷ []) status → P 0 → P 1 → P 3 → P 5 → P 6 → P 8 → P 9 → P status
+by_status P status h p0 p1 p3 p5 p6 p8 p9 =
     elim (eqb_tells 0 status) [
       | inl s ↦ subst P s.1 p0
       | inr a0 ↦ elim (eqb_tells 1 status) [
         | inl s ↦ subst P s.1 p1
         | inr a1 ↦ elim (eqb_tells 3 status) [
           | inl s ↦ subst P s.1 p3
-          | inr a3 ↦ elim (eqb_tells 6 status) [
-            | inl s ↦ subst P s.1 p6
-            | inr a6 ↦ elim (eqb_tells 8 status) [
-              | inl s ↦ subst P s.1 p8
-              | inr a8 ↦ elim (eqb_tells 9 status) [
-                | inl s ↦ subst P s.1 p9
-                | inr a9 ↦ absurd (let none = rw (a0.0, a1.0, a3.0, a6.0, a8.0, a9.0) at h in cc)
+          | inr a3 ↦ elim (eqb_tells 5 status) [
+            | inl s ↦ subst P s.1 p5
+            | inr a5 ↦ elim (eqb_tells 6 status) [
+              | inl s ↦ subst P s.1 p6
+              | inr a6 ↦ elim (eqb_tells 8 status) [
+                | inl s ↦ subst P s.1 p8
+                | inr a8 ↦ elim (eqb_tells 9 status) [
+                  | inl s ↦ subst P s.1 p9
+                  | inr a9 ↦ absurd (let none = rw (a0.0, a1.0, a3.0, a5.0, a6.0, a8.0, a9.0) at h in cc)
+                ]
               ]
             ]
           ]
@@ -32,140 +38,181 @@ by_status P status h p0 p1 p3 p6 p8 p9 =
     ]
 
 -- what each status says of a script that is told
-pub record Tells (held : Option (List ℕ)) (status : ℕ) : Type 0 where
-  pub done_within : status ≡ 0 → IfSome held (λ script. length script ≤ script_limit)
-  pub part_within : status ≡ 6 → IfSome held (λ script. length script ≤ script_limit)
-  pub too_long : status ≡ 8 → IfSome held (λ script. script_limit < length script)
-  pub not_built : status ≡ 9 → IfSome held (λ script. (length script ≤ script_limit) × (first_path_of script ≡ None))
-  pub done : status ≡ 0 → IfSome held (λ script. (report : List ℕ) × IsReportOf script report)
-  pub part : status ≡ 6 → IfSome held (λ script. (report : List ℕ) × IsReportOf script report)
+pub record Tells (window : ℕ) (held : Option (List ℕ)) (status : ℕ) : Type 0 where
+  pub within : (status ≡ 0 → IfSome held (λ text. length text ≤ script_limit)) × (status ≡ 6 → IfSome held (λ text. length text ≤ script_limit))
+  pub too_long : status ≡ 8 → IfSome held (λ text. script_limit < length text)
+  pub refused : status ≡ 5 → IfSome held (λ text. (line : ℕ) × (why : ScriptWhy) × (length text ≤ script_limit) × IsRefusedText line why text)
+  pub not_built : status ≡ 9 → IfSome held (λ text. (length text ≤ script_limit) × IsOtherText window text)
+  pub done : status ≡ 0 → IfSome held (λ text. (report : List ℕ) × IsReportOf window text report)
+  pub part : status ≡ 6 → IfSome held (λ text. (report : List ℕ) × IsReportOf window text report)
+
+one_script : (r : Result Script ScriptFail) (a b : Script) → r ≡ Ok a → r ≡ Ok b → a ≡ b
+one_script r a b ea eb = let e : ◌≡◌ {A = Result Script ScriptFail} (Ok a) (Ok b) = sym ea ∙ eb in cc
+
+no_script : (r : Result Script ScriptFail) (a : Script) (fail : ScriptFail) → r ≡ Ok a → r ≡ Err fail → ⊥
+no_script r a fail ea eb = let e : ◌≡◌ {A = Result Script ScriptFail} (Ok a) (Err fail) = sym ea ∙ eb in cc
+
+both : (b : Bool) → b ≡ true → b ≡ false → ⊥
+both b t f = let e : true ≡ false = sym t ∙ f in cc
+
+-- a plan is plain or it isn't
+plain_other : (window : ℕ) (text : List ℕ) (script : Script) → script_of text ≡ Ok script → is_plain (plan_of script window 1) ≡ true → IsOtherText window text → ⊥
+plain_other window text script read plain other =
+    let same = one_script (script_of text) script other.script read other.read in
+    both (is_plain (plan_of script window 1)) plain (ap (λ (s : Script). is_plain (plan_of s window 1)) same ∙ other.other)
 
 -- a script that is too long is answered so
-pub too_long_always : (held : Option (List ℕ)) (status : ℕ) → IsOneOf (0 ∷ 1 ∷ 3 ∷ 6 ∷ 8 ∷ 9 ∷ []) status → Tells held status → IfSome held (λ script. script_limit < length script → IsOneOf (8 ∷ 3 ∷ 1 ∷ []) status)
-too_long_always None status h t = tt
-too_long_always (Some script) status h t =
-    by_status (λ n. Tells (Some script) n → script_limit < length script → IsOneOf (8 ∷ 3 ∷ 1 ∷ []) n) status h
-    (λ t long. absurd (let short = t.done_within refl in omega arith))
+pub too_long_always : (window : ℕ) (held : Option (List ℕ)) (status : ℕ) → IsOneOf (0 ∷ 1 ∷ 3 ∷ 5 ∷ 6 ∷ 8 ∷ 9 ∷ []) status → Tells window held status → IfSome held (λ text. script_limit < length text → IsOneOf (8 ∷ 3 ∷ 1 ∷ []) status)
+too_long_always window None status h t = tt
+too_long_always window (Some text) status h t =
+    by_status (λ n. Tells window (Some text) n → script_limit < length text → IsOneOf (8 ∷ 3 ∷ 1 ∷ []) n) status h
+    (λ t long. absurd (let short = t.within.0 refl in omega arith))
     (λ t long. refl)
     (λ t long. refl)
-    (λ t long. absurd (let short = t.part_within refl in omega arith))
+    (λ t long. absurd (let short = (t.refused refl).2 in omega arith))
+    (λ t long. absurd (let short = t.within.1 refl in omega arith))
     (λ t long. refl)
     (λ t long. absurd (let short = (t.not_built refl).0 in omega arith))
     t
 
--- a report is of a first path
-has_path : (script : List ℕ) → ((report : List ℕ) × IsReportOf script report) → first_path_of script ≡ None → ⊥
-has_path script made none = let is = made.1.read.1 in cc
-
--- a script that isn't of the first path is answered so
-pub not_built_always : (held : Option (List ℕ)) (status : ℕ) → IsOneOf (0 ∷ 1 ∷ 3 ∷ 6 ∷ 8 ∷ 9 ∷ []) status → Tells held status → IfSome held (λ script. length script ≤ script_limit → first_path_of script ≡ None → IsOneOf (9 ∷ 3 ∷ 1 ∷ []) status)
-not_built_always None status h t = tt
-not_built_always (Some script) status h t =
-    by_status (λ n. Tells (Some script) n → length script ≤ script_limit → first_path_of script ≡ None → IsOneOf (9 ∷ 3 ∷ 1 ∷ []) n) status h
-    (λ t short none. absurd (has_path script (t.done refl) none))
-    (λ t short none. refl)
-    (λ t short none. refl)
-    (λ t short none. absurd (has_path script (t.part refl) none))
-    (λ t short none. absurd (let long = t.too_long refl in omega arith))
-    (λ t short none. refl)
+-- a refused script is answered so
+pub refused_always : (window : ℕ) (held : Option (List ℕ)) (status : ℕ) → IsOneOf (0 ∷ 1 ∷ 3 ∷ 5 ∷ 6 ∷ 8 ∷ 9 ∷ []) status → Tells window held status
+    → IfSome held (λ text. (line : ℕ) (why : ScriptWhy) → length text ≤ script_limit → IsRefusedText line why text → IsOneOf (5 ∷ 3 ∷ 1 ∷ []) status)
+refused_always window None status h t = tt
+refused_always window (Some text) status h t =
+    by_status (λ n. Tells window (Some text) n → (line : ℕ) (why : ScriptWhy) → length text ≤ script_limit → IsRefusedText line why text → IsOneOf (5 ∷ 3 ∷ 1 ∷ []) n) status h
+    (λ t line why short refusal. absurd (let is = (t.done refl).1 in no_script (script_of text) is.script _ is.read refusal))
+    (λ t line why short refusal. refl)
+    (λ t line why short refusal. refl)
+    (λ t line why short refusal. refl)
+    (λ t line why short refusal. absurd (let is = (t.part refl).1 in no_script (script_of text) is.script _ is.read refusal))
+    (λ t line why short refusal. absurd (let long = t.too_long refl in omega arith))
+    (λ t line why short refusal. absurd (let other = (t.not_built refl).1 in no_script (script_of text) other.script _ other.read refusal))
     t
 
-is_some_none : (o : Option FirstPath) → IsSome o → o ≡ None → ⊥
-is_some_none None some none = let one : false ≡ true = some in cc
-is_some_none (Some path) some none = cc
+-- a script whose plan isn't plain is answered so
+pub not_built_always : (window : ℕ) (held : Option (List ℕ)) (status : ℕ) → IsOneOf (0 ∷ 1 ∷ 3 ∷ 5 ∷ 6 ∷ 8 ∷ 9 ∷ []) status → Tells window held status
+    → IfSome held (λ text. length text ≤ script_limit → IsOtherText window text → IsOneOf (9 ∷ 3 ∷ 1 ∷ []) status)
+not_built_always window None status h t = tt
+not_built_always window (Some text) status h t =
+    by_status (λ n. Tells window (Some text) n → length text ≤ script_limit → IsOtherText window text → IsOneOf (9 ∷ 3 ∷ 1 ∷ []) n) status h
+    (λ t short other. absurd (let is = (t.done refl).1 in plain_other window text is.script is.read is.plain other))
+    (λ t short other. refl)
+    (λ t short other. refl)
+    (λ t short other. absurd (no_script (script_of text) other.script _ other.read (t.refused refl).3))
+    (λ t short other. absurd (let is = (t.part refl).1 in plain_other window text is.script is.read is.plain other))
+    (λ t short other. absurd (let long = t.too_long refl in omega arith))
+    (λ t short other. refl)
+    t
 
 -- where nothing stands in the way, the report is written
-pub complete : (held : Option (List ℕ)) (name_failed sink_failed : Type 0) (status : ℕ) → IsOneOf (0 ∷ 1 ∷ 3 ∷ 6 ∷ 8 ∷ 9 ∷ []) status → Tells held status → (status ≡ 3 → name_failed) → (status ≡ 6 → sink_failed)
-    → IfSome held (λ script. length script ≤ script_limit → IsSome (first_path_of script) → (name_failed → ⊥) → (sink_failed → ⊥) → IsOneOf (0 ∷ 1 ∷ []) status)
-complete None N S status h t n s = tt
-complete (Some script) N S status h t n s =
-    by_status (λ k. Tells (Some script) k → (k ≡ 3 → N) → (k ≡ 6 → S) → length script ≤ script_limit → IsSome (first_path_of script) → (N → ⊥) → (S → ⊥) → IsOneOf (0 ∷ 1 ∷ []) k) status h
-    (λ t n s short path not_n not_s. refl)
-    (λ t n s short path not_n not_s. refl)
-    (λ t n s short path not_n not_s. absurd (not_n (n refl)))
-    (λ t n s short path not_n not_s. absurd (not_s (s refl)))
-    (λ t n s short path not_n not_s. absurd (let long = t.too_long refl in omega arith))
-    (λ t n s short path not_n not_s. absurd (is_some_none (first_path_of script) path (t.not_built refl).1))
+pub complete : (window : ℕ) (held : Option (List ℕ)) (name_failed sink_failed : Type 0) (status : ℕ) → IsOneOf (0 ∷ 1 ∷ 3 ∷ 5 ∷ 6 ∷ 8 ∷ 9 ∷ []) status → Tells window held status → (status ≡ 3 → name_failed) → (status ≡ 6 → sink_failed)
+    → IfSome held (λ text. length text ≤ script_limit → IsPlainText window text → (name_failed → ⊥) → (sink_failed → ⊥) → IsOneOf (0 ∷ 1 ∷ []) status)
+complete window None N S status h t n s = tt
+complete window (Some text) N S status h t n s =
+    by_status (λ k. Tells window (Some text) k → (k ≡ 3 → N) → (k ≡ 6 → S) → length text ≤ script_limit → IsPlainText window text → (N → ⊥) → (S → ⊥) → IsOneOf (0 ∷ 1 ∷ []) k) status h
+    (λ t n s short plain not_n not_s. refl)
+    (λ t n s short plain not_n not_s. refl)
+    (λ t n s short plain not_n not_s. absurd (not_n (n refl)))
+    (λ t n s short plain not_n not_s. absurd (no_script (script_of text) plain.script _ plain.read (t.refused refl).3))
+    (λ t n s short plain not_n not_s. absurd (not_s (s refl)))
+    (λ t n s short plain not_n not_s. absurd (let long = t.too_long refl in omega arith))
+    (λ t n s short plain not_n not_s. absurd (plain_other window text plain.script plain.read plain.plain (t.not_built refl).1))
     t n s
 
-made_by : (held old new : Option (List ℕ)) → IfSome held (WritesReport old new) → IfSome held (λ script. (report : List ℕ) × IsReportOf script report)
-made_by None old new w = tt
-made_by (Some script) old new w = (w.report, w.is)
+made_by : (window : ℕ) (held old new : Option (List ℕ)) → IfSome held (WritesReport window old new) → IfSome held (λ text. (report : List ℕ) × IsReportOf window text report)
+made_by window None old new w = tt
+made_by window (Some text) old new w = (w.report, w.is)
 
-made_partly : (held old new : Option (List ℕ)) → IfSome held (WritesPart old new) → IfSome held (λ script. (report : List ℕ) × IsReportOf script report)
-made_partly None old new w = tt
-made_partly (Some script) old new w = (w.report, w.is)
+made_partly : (window : ℕ) (held old new : Option (List ℕ)) → IfSome held (WritesPart window old new) → IfSome held (λ text. (report : List ℕ) × IsReportOf window text report)
+made_partly window None old new w = tt
+made_partly window (Some text) old new w = (w.report, w.is)
 
--- what the status says of the script
-tells : (name : List ℕ) (o : Outside) (status : ℕ)
-    → (status ≡ 0 → IfSome (o.held name) (WritesReport o.out.taken_before o.out.taken_after))
-    → (status ≡ 0 → IfSome (o.held name) (λ script. length script ≤ script_limit))
-    → (status ≡ 6 → IfSome (o.held name) (WritesPart o.out.taken_before o.out.taken_after))
-    → (status ≡ 6 → IfSome (o.held name) (λ script. length script ≤ script_limit))
-    → (status ≡ 8 → IfSome (o.held name) (λ script. script_limit < length script))
-    → (status ≡ 9 → IfSome (o.held name) (λ script. (length script ≤ script_limit) × (first_path_of script ≡ None)))
-    → Tells (o.held name) status
-tells name o status done done_within part part_within too_long not_built = record {
-  done_within = done_within;
-  part_within = part_within;
-  too_long = too_long;
-  not_built = not_built;
-  done = λ e. made_by (o.held name) o.out.taken_before o.out.taken_after (done e);
-  part = λ e. made_partly (o.held name) o.out.taken_before o.out.taken_after (part e);
-}
+told_refusal : (held : Option (List ℕ)) (line : ℕ) (why : ScriptWhy) → IfSome held (λ text. (length text ≤ script_limit) × IsRefusedText line why text)
+    → IfSome held (λ text. (line : ℕ) × (why : ScriptWhy) × (length text ≤ script_limit) × IsRefusedText line why text)
+told_refusal None line why h = tt
+told_refusal (Some text) line why h = (line, why, h.0, h.1)
 
 -- the clauses of each status make up a replay
-pub replay_by : (name : List ℕ) (o : Outside) (status : ℕ)
-    → IsOneOf (0 ∷ 1 ∷ 3 ∷ 6 ∷ 8 ∷ 9 ∷ []) status
-    → (status ≡ 0 → IfSome (o.held name) (WritesReport o.out.taken_before o.out.taken_after))
-    → (status ≡ 0 → IfSome (o.held name) (λ script. length script ≤ script_limit))
+pub replay_by : (name : List ℕ) (window : ℕ) (o : Outside) (status : ℕ)
+    → IsOneOf (0 ∷ 1 ∷ 3 ∷ 5 ∷ 6 ∷ 8 ∷ 9 ∷ []) status
+    → (status ≡ 0 → IfSome (o.held name) (WritesReport window o.out.taken_before o.out.taken_after))
+    → (status ≡ 0 → IfSome (o.held name) (λ text. length text ≤ script_limit))
     → (status ≡ 0 → IsUntouched o.err)
     → (status ≡ 3 → NameFailed o name)
+    → (status ≡ 5 → IsRefusal name (o.held name) o.err)
     → (status ≡ 6 → SinkFailed o.out)
-    → (status ≡ 6 → IfSome (o.held name) (WritesPart o.out.taken_before o.out.taken_after))
-    → (status ≡ 6 → IfSome (o.held name) (λ script. length script ≤ script_limit))
-    → (status ≡ 8 → IfSome (o.held name) (λ script. script_limit < length script))
-    → (status ≡ 9 → IfSome (o.held name) (λ script. (length script ≤ script_limit) × (first_path_of script ≡ None)))
+    → (status ≡ 6 → IfSome (o.held name) (WritesPart window o.out.taken_before o.out.taken_after))
+    → (status ≡ 6 → IfSome (o.held name) (λ text. length text ≤ script_limit))
+    → (status ≡ 8 → IfSome (o.held name) (λ text. script_limit < length text))
+    → (status ≡ 9 → IfSome (o.held name) (λ text. (length text ≤ script_limit) × IsOtherText window text))
     → (status ≢ 0 → status ≢ 6 → IsUntouched o.out)
-    → (status ≢ 0 → SinkSays o.err (line_for status name))
-    → IsReplay name o status
-replay_by name o status answer done done_within quiet cannot_read cannot_write part part_within too_long not_built untouched said =
-    let t = tells name o status done done_within part part_within too_long not_built in
+    → (status ≢ 0 → status ≢ 5 → SinkSays o.err (line_for status name))
+    → IsReplay name window o status
+replay_by name window o status answer done done_within quiet cannot_read refused cannot_write part part_within too_long not_built untouched said =
+    let t : Tells window (o.held name) status = record {
+      within = (done_within, part_within);
+      too_long = too_long;
+      refused = λ e. let r = refused e in told_refusal (o.held name) r.line r.why r.refused;
+      not_built = not_built;
+      done = λ e. made_by window (o.held name) o.out.taken_before o.out.taken_after (done e);
+      part = λ e. made_partly window (o.held name) o.out.taken_before o.out.taken_after (part e);
+    } in
     record {
       answer = answer;
       done = done;
       quiet = quiet;
       cannot_read = cannot_read;
+      refused = refused;
+      refused_always = refused_always window (o.held name) status answer t;
       cannot_write = cannot_write;
       part = part;
       too_long = too_long;
-      too_long_always = too_long_always (o.held name) status answer t;
+      too_long_always = too_long_always window (o.held name) status answer t;
       not_built = not_built;
-      not_built_always = not_built_always (o.held name) status answer t;
+      not_built_always = not_built_always window (o.held name) status answer t;
       untouched = untouched;
       said = said;
-      complete = complete (o.held name) (NameFailed o name) (SinkFailed o.out) status answer t cannot_read cannot_write;
+      complete = complete window (o.held name) (NameFailed o name) (SinkFailed o.out) status answer t cannot_read cannot_write;
     }
 
 -- want of memory before anything was read
-pub replay_without_memory : (name : List ℕ) (o : Outside) → IsUntouched o.out → SinkSays o.err (line_for 1 name) → IsReplay name o 1
-replay_without_memory name o untouched said =
-    replay_by name o 1 refl
-    (λ e. absurd cc) (λ e. absurd cc) (λ e. absurd cc) (λ e. absurd cc) (λ e. absurd cc) (λ e. absurd cc) (λ e. absurd cc) (λ e. absurd cc) (λ e. absurd cc)
-    (λ e f. untouched) (λ e. said)
+pub replay_without_memory : (name : List ℕ) (window : ℕ) (o : Outside) → IsUntouched o.out → SinkSays o.err (line_for 1 name) → IsReplay name window o 1
+replay_without_memory name window o untouched said =
+    replay_by name window o 1 refl
+    (λ e. absurd cc) (λ e. absurd cc) (λ e. absurd cc) (λ e. absurd cc) (λ e. absurd cc) (λ e. absurd cc) (λ e. absurd cc) (λ e. absurd cc) (λ e. absurd cc) (λ e. absurd cc)
+    (λ e f. untouched) (λ e f. said)
 
 line_for-memory : (a b : List ℕ) → line_for 1 a ≡ line_for 1 b
 unfolding line_of
 line_for-memory a b = refl
 
-named_none : (o : Option (List ℕ)) → IsSome o → o ≡ None → ⊥
-named_none None some none = let one : false ≡ true = some in cc
-named_none (Some name) some none = cc
-
-pub command_without_memory : (words : List (List ℕ)) (o : Outside) → IsSome (script_named words) → IsUntouched o.out → SinkSays o.err (line_for 1 []) → IsCommand words o 1
-command_without_memory words o some untouched said = record {
-  usage = (λ e. absurd cc, λ none. absurd (named_none (script_named words) some none));
+pub command_without_memory : (words : List (List ℕ)) (o : Outside) → IsUntouched o.out → SinkSays o.err (line_for 1 []) → IsCommand words o 1
+command_without_memory words o untouched said = record {
+  usage = λ e. absurd cc;
+  usage_always = λ none. refl;
   usage_said = λ e. absurd cc;
-  usage_untouched = λ e. absurd cc;
-  replays = λ name e. replay_without_memory name o untouched (subst (λ (line : List ℕ). SinkSays o.err line) (line_for-memory [] name) said);
+  usage_untouched = λ none. untouched;
+  usage_memory = λ none e. said;
+  replays = λ a e. replay_without_memory a.script a.window o untouched (subst (λ (line : List ℕ). SinkSays o.err line) (line_for-memory [] a.script) said);
+}
+
+pub command_refused : (words : List (List ℕ)) (o : Outside) → asked words ≡ None → IsUntouched o.out → SinkSays o.err usage_line → IsCommand words o 2
+command_refused words o none untouched said = record {
+  usage = λ e. none;
+  usage_always = λ none. refl;
+  usage_said = λ e. said;
+  usage_untouched = λ none. untouched;
+  usage_memory = λ none e. absurd cc;
+  replays = λ a e. absurd (let both : ◌≡◌ {A = Option Asked} None (Some a) = sym none ∙ e in cc);
+}
+
+pub command_replays : (words : List (List ℕ)) (a : Asked) (o : Outside) (status : ℕ) → asked words ≡ Some a → IsReplay a.script a.window o status → IsCommand words o status
+command_replays words a o status e replay = record {
+  usage = λ two. absurd (let h = subst (IsOneOf (0 ∷ 1 ∷ 3 ∷ 5 ∷ 6 ∷ 8 ∷ 9 ∷ [])) two replay.answer in cc);
+  usage_always = λ none. absurd (let both : ◌≡◌ {A = Option Asked} None (Some a) = sym none ∙ e in cc);
+  usage_said = λ two. absurd (let h = subst (IsOneOf (0 ∷ 1 ∷ 3 ∷ 5 ∷ 6 ∷ 8 ∷ 9 ∷ [])) two replay.answer in cc);
+  usage_untouched = λ none. absurd (let both : ◌≡◌ {A = Option Asked} None (Some a) = sym none ∙ e in cc);
+  usage_memory = λ none one. absurd (let both : ◌≡◌ {A = Option Asked} None (Some a) = sym none ∙ e in cc);
+  replays = λ b eb. let same : a ≡ b = (let both : ◌≡◌ {A = Option Asked} (Some a) (Some b) = sym e ∙ eb in cc) in subst (λ (x : Asked). IsReplay x.script x.window o status) same replay;
 }

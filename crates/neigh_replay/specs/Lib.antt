@@ -1,8 +1,6 @@
-pub mod Words
-pub mod FirstPath
-pub mod Command
-pub mod Plan
-pub mod FirstRun
-pub mod FirstText
-pub mod Replay
+pub mod Window
+pub mod Settings
+pub mod Merging
+pub mod PlainRun
 pub mod Status
+pub mod Replay

@@ -1,50 +1,65 @@
 -- What a replay of a script does.
-use Rattle.std.specs.Prelude.{◌≡◌, ◌≢◌, ◌↔◌, ℕ, ◌<◌, ◌≤◌, List, [], ◌∷◌, take, length, Option, Some, None, IsSome, IfSome}
+use Rattle.std.specs.Prelude.{◌≡◌, ◌≢◌, ℕ, ◌<◌, ◌≤◌, true, false, List, [], ◌∷◌, take, length, Option, Some, None, Ok, Err, IfSome}
 use Rattle.std.specs.Io.KnownBytes.{Appends}
-use Rattle.nb_base.specs.declared.plan.Plan.{Plan}
 use Rattle.nb_io.specs.Faults.{Rose}
+use Rattle.neigh_script.specs.declared.script.Script.{Script}
+use Rattle.neigh_script.specs.declared.why.ScriptWhy.{ScriptWhy}
+use Rattle.neigh_script.specs.declared.why.ScriptFail.TheVariants as script_fail
+use Rattle.neigh_script.specs.Lines.{script_of}
 use Rattle.neigh_run.specs.declared.run.Run.{Run}
+use Rattle.neigh_run.specs.Plan.{plan_of, is_plain}
 use Rattle.neigh_run.specs.Report.{report_text}
 use Rattle.neigh_run.specs.Inline.{IsInlineRun}
-use Rattle.neigh_replay.specs.declared.first_path.FirstPath.{FirstPath}
-use Rattle.neigh_replay.specs.declared.first_path.FirstPath.TheVariants.{Alone, Entry, Packet}
-use Rattle.neigh_replay.specs.FirstPath.{first_path_of}
-use Rattle.neigh_replay.specs.Plan.{plan_of}
-use Rattle.neigh_replay.specs.Command.{script_named}
-use Rattle.neigh_replay.specs.Status.{IsOneOf, Says, line_for, usage_line}
+use Rattle.neigh_replay.specs.declared.replay.Failure.TheVariants as failure
+use Rattle.neigh_replay.specs.Settings.{Asked, asked}
+use Rattle.neigh_replay.specs.Status.{IsOneOf, Says, line_of, line_for, usage_line}
 
 -- the most bytes of a script: 8 MiB
 abbrev pub script_limit : ℕ
 script_limit = 8388608
 
--- the packet doesn't go out before its entry is added
-abbrev pub IsOrdered : FirstPath → Type 0
-IsOrdered (Alone host) = Unit {0}
-IsOrdered (Entry host added) = Unit {0}
-IsOrdered (Packet host added sending) = added.at ≤ sending.at
+-- a text is a script whose plan, with this window and one bucket, is plain
+pub record IsPlainText (window : ℕ) (text : List ℕ) : Type 0 where
+  pub script : Script
+  pub read : script_of text ≡ Ok script
+  pub plain : is_plain (plan_of script window 1) ≡ true
 
--- the script is of the first path, with this plan
-abbrev pub IsPlanOf : List ℕ → Plan → Type 0
-IsPlanOf script plan = (path : FirstPath) × (first_path_of script ≡ Some path) × (plan ≡ plan_of path)
+-- a text is a script whose plan isn't plain
+pub record IsOtherText (window : ℕ) (text : List ℕ) : Type 0 where
+  pub script : Script
+  pub read : script_of text ≡ Ok script
+  pub other : is_plain (plan_of script window 1) ≡ false
 
--- a text is the report of the inline run of the script's plan
-pub record IsReportOf (script report : List ℕ) : Type 0 where
-  pub plan : Plan
+-- a text is refused as a script at this line, for this reason
+abbrev pub IsRefusedText : ℕ → ScriptWhy → List ℕ → Type 0
+IsRefusedText line why text = script_of text ≡ Err (script_fail.Refused line why)
+
+-- a text is the report of the inline run of the script's plan, with this window and one bucket
+pub record IsReportOf (window : ℕ) (text report : List ℕ) : Type 0 where
+  pub script : Script
   pub run : Run
-  pub read : IsPlanOf script plan
-  pub inline : IsInlineRun plan run
+  pub read : script_of text ≡ Ok script
+  pub plain : is_plain (plan_of script window 1) ≡ true
+  pub inline : IsInlineRun (plan_of script window 1) run
+  pub spelled : report ≡ report_text run
+
+-- a text is the report of a script, whose plan is plain
+pub record IsScriptsReport (window : ℕ) (script : Script) (report : List ℕ) : Type 0 where
+  pub run : Run
+  pub plain : is_plain (plan_of script window 1) ≡ true
+  pub inline : IsInlineRun (plan_of script window 1) run
   pub spelled : report ≡ report_text run
 
 -- the report of the script was written, and nothing else
-pub record WritesReport (old new : Option (List ℕ)) (script : List ℕ) : Type 0 where
+pub record WritesReport (window : ℕ) (old new : Option (List ℕ)) (text : List ℕ) : Type 0 where
   pub report : List ℕ
-  pub is : IsReportOf script report
+  pub is : IsReportOf window text report
   pub written : Appends old new report
 
 -- a part of it, from the front
-pub record WritesPart (old new : Option (List ℕ)) (script : List ℕ) : Type 0 where
+pub record WritesPart (window : ℕ) (old new : Option (List ℕ)) (text : List ℕ) : Type 0 where
   pub report : List ℕ
-  pub is : IsReportOf script report
+  pub is : IsReportOf window text report
   pub count : ℕ
   pub written : Appends old new (take count report)
 
@@ -83,34 +98,46 @@ SinkFailed sink = Rose sink.faults_before sink.faults_after
 abbrev pub NameFailed : Outside → List ℕ → Type 0
 NameFailed o name = Rose (o.faults_before name) (o.faults_after name)
 
--- a replay of the script of this name that ended with the status
-pub record IsReplay (name : List ℕ) (o : Outside) (status : ℕ) : Type 0 where
-  pub answer : IsOneOf (0 ∷ 1 ∷ 3 ∷ 6 ∷ 8 ∷ 9 ∷ []) status
+-- the sink is told the line and the reason of a refusal, which is the text's
+pub record IsRefusal (name : List ℕ) (held : Option (List ℕ)) (err : SinkCall) : Type 0 where
+  pub line : ℕ
+  pub why : ScriptWhy
+  pub refused : IfSome held (λ text. (length text ≤ script_limit) × IsRefusedText line why text)
+  pub said : SinkSays err (line_of (failure.Refused line why) name)
+
+-- a replay of the script of this name, with this window, that ended with the status
+pub record IsReplay (name : List ℕ) (window : ℕ) (o : Outside) (status : ℕ) : Type 0 where
+  pub answer : IsOneOf (0 ∷ 1 ∷ 3 ∷ 5 ∷ 6 ∷ 8 ∷ 9 ∷ []) status
   -- 0: exactly the report of the inline run of the script's plan was written, and nothing was said
-  pub done : status ≡ 0 → IfSome (o.held name) (WritesReport o.out.taken_before o.out.taken_after)
+  pub done : status ≡ 0 → IfSome (o.held name) (WritesReport window o.out.taken_before o.out.taken_after)
   pub quiet : status ≡ 0 → IsUntouched o.err
   -- 3: only where reading the script failed
   pub cannot_read : status ≡ 3 → NameFailed o name
+  -- 5: exactly where the script is refused, which is said, unless reading it failed, it is too long, or no memory was left
+  pub refused : status ≡ 5 → IsRefusal name (o.held name) o.err
+  pub refused_always : IfSome (o.held name) (λ text. (line : ℕ) (why : ScriptWhy) → length text ≤ script_limit → IsRefusedText line why text → IsOneOf (5 ∷ 3 ∷ 1 ∷ []) status)
   -- 6: only where writing the report failed, of which a part from the front was written
   pub cannot_write : status ≡ 6 → SinkFailed o.out
-  pub part : status ≡ 6 → IfSome (o.held name) (WritesPart o.out.taken_before o.out.taken_after)
+  pub part : status ≡ 6 → IfSome (o.held name) (WritesPart window o.out.taken_before o.out.taken_after)
   -- 8: exactly where the script is too long, unless reading it failed or no memory was left
-  pub too_long : status ≡ 8 → IfSome (o.held name) (λ script. script_limit < length script)
-  pub too_long_always : IfSome (o.held name) (λ script. script_limit < length script → IsOneOf (8 ∷ 3 ∷ 1 ∷ []) status)
-  -- 9: exactly where the script isn't of the first path, with the same exceptions
-  pub not_built : status ≡ 9 → IfSome (o.held name) (λ script. (length script ≤ script_limit) × (first_path_of script ≡ None))
-  pub not_built_always : IfSome (o.held name) (λ script. length script ≤ script_limit → first_path_of script ≡ None → IsOneOf (9 ∷ 3 ∷ 1 ∷ []) status)
+  pub too_long : status ≡ 8 → IfSome (o.held name) (λ text. script_limit < length text)
+  pub too_long_always : IfSome (o.held name) (λ text. script_limit < length text → IsOneOf (8 ∷ 3 ∷ 1 ∷ []) status)
+  -- 9: exactly where the script's plan isn't plain, with the same exceptions
+  pub not_built : status ≡ 9 → IfSome (o.held name) (λ text. (length text ≤ script_limit) × IsOtherText window text)
+  pub not_built_always : IfSome (o.held name) (λ text. length text ≤ script_limit → IsOtherText window text → IsOneOf (9 ∷ 3 ∷ 1 ∷ []) status)
   -- no other status writes a report, and each failure says its line
   pub untouched : status ≢ 0 → status ≢ 6 → IsUntouched o.out
-  pub said : status ≢ 0 → SinkSays o.err (line_for status name)
-  -- where the script is of the first path and nothing outside fails, the report is written, unless no memory is left
-  pub complete : IfSome (o.held name) (λ script. length script ≤ script_limit → IsSome (first_path_of script) → (NameFailed o name → ⊥) → (SinkFailed o.out → ⊥) → IsOneOf (0 ∷ 1 ∷ []) status)
+  pub said : status ≢ 0 → status ≢ 5 → SinkSays o.err (line_for status name)
+  -- where the script's plan is plain and nothing outside fails, the report is written, unless no memory is left
+  pub complete : IfSome (o.held name) (λ text. length text ≤ script_limit → IsPlainText window text → (NameFailed o name → ⊥) → (SinkFailed o.out → ⊥) → IsOneOf (0 ∷ 1 ∷ []) status)
 
 -- a call of the command with these words that ended with the status
 pub record IsCommand (words : List (List ℕ)) (o : Outside) (status : ℕ) : Type 0 where
-  -- 2: exactly where the words aren't of the command
-  pub usage : (status ≡ 2) ↔ (script_named words ≡ None)
+  -- 2: exactly where the words aren't of the command, unless no memory was left before that was known
+  pub usage : status ≡ 2 → asked words ≡ None
+  pub usage_always : asked words ≡ None → IsOneOf (2 ∷ 1 ∷ []) status
   pub usage_said : status ≡ 2 → SinkSays o.err usage_line
-  pub usage_untouched : status ≡ 2 → IsUntouched o.out
-  -- otherwise it is a replay of the script that the words name
-  pub replays : (name : List ℕ) → script_named words ≡ Some name → IsReplay name o status
+  pub usage_untouched : asked words ≡ None → IsUntouched o.out
+  pub usage_memory : asked words ≡ None → status ≡ 1 → SinkSays o.err (line_for 1 [])
+  -- otherwise it is a replay of the script that the words name, with the window that they ask for
+  pub replays : (a : Asked) → asked words ≡ Some a → IsReplay a.script a.window o status

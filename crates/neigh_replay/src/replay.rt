@@ -1,15 +1,19 @@
 //! From a script's name to the report.
-ghost use Rattle.std.specs.Prelude.{◌≡◌, ℕ, ◌<◌, ◌≤◌, List, length, take, Option, None, Err, IfSome, IfNone, IfOk, string_bytes, OnOk};
-ghost use Rattle.std.specs.Io.KnownBytes.{Appends};
+ghost use Rattle.std.specs.Prelude.{◌≡◌, ℕ, ◌<◌, ◌≤◌, false, length, take, None, Ok, Err, IfSome, IfNone, IfOk, OnOk};
+ghost use Rattle.neigh_run.specs.Plan.{plan_of};
+ghost use Rattle.neigh_run.specs.Plan as plans;
 ghost use Rattle.nb_io.specs.Faults.{Rose};
-ghost use Rattle.neigh_run.specs.Report.{report_text};
-ghost use Rattle.neigh_replay.specs.FirstPath.{first_path_of};
-ghost use Rattle.neigh_replay.specs.Replay.{IsReportOf, WritesReport, WritesPart};
+ghost use Rattle.neigh_script.specs.declared.why.ScriptWhy.{ScriptWhy};
+ghost use Rattle.neigh_script.specs.Limits as limits;
+ghost use Rattle.neigh_replay.specs.Replay.{IsReportOf, IsOtherText, IsRefusedText, IsScriptsReport, WritesReport, WritesPart};
 
-use crate::first_path::read_first_path;
-use crate::printing::report;
+use crate::inline::replay_plain;
+use crate::plainness::is_plain;
+use crate::planning::plan;
 use nb_base::Bytes;
 use nb_io::{Inputs, ReadFail, Sink, read_all, write_all};
+use neigh_report::text;
+use neigh_script::{Script, ScriptFail, read};
 use std::alloc::{AllocError, Global};
 
 /// The most bytes of a script: 8 MiB.
@@ -21,6 +25,11 @@ pub enum Failure {
     Memory,
     ReadFault,
     TooLong,
+    /// The script is refused at this line, counted from 1.
+    Refused {
+        line: u32,
+        why: neigh_script::ScriptWhy,
+    },
     NotBuilt,
     WriteFault,
 }
@@ -29,44 +38,80 @@ pub enum Failure {
 pub(crate) fn replay<I: Inputs, K: Sink>(
     alloc: Global,
     script: &str,
+    window: u32,
     inputs: &mut I,
     out: &mut K,
 ) -> Result<(), Failure>
-    ensures ok { OnOk result (IfSome (I.held inputs.old script.now) (WritesReport (K.taken out.old) (K.taken out.new))) }
-    ensures ok_within { OnOk result (IfSome (I.held inputs.old script.now) (λ bytes. length bytes ≤ SCRIPT_LIMIT)) }
+    ensures ok { OnOk result (IfSome (I.held inputs.old script.now) (WritesReport window (K.taken out.old) (K.taken out.new))) }
+    ensures ok_within { OnOk result (IfSome (I.held inputs.old script.now) (λ text. length text ≤ SCRIPT_LIMIT)) }
     ensures read_fault { result ≡ Err Failure.ReadFault → Rose (I.faults inputs.old script.now) (I.faults inputs.new script.now) }
-    ensures too_long { result ≡ Err Failure.TooLong → IfSome (I.held inputs.old script.now) (λ bytes. SCRIPT_LIMIT < length bytes) }
-    ensures not_built { result ≡ Err Failure.NotBuilt → IfSome (I.held inputs.old script.now) (λ bytes. (length bytes ≤ SCRIPT_LIMIT) × (first_path_of bytes ≡ None)) }
+    ensures too_long { result ≡ Err Failure.TooLong → IfSome (I.held inputs.old script.now) (λ text. SCRIPT_LIMIT < length text) }
+    ensures refused { (line : ℕ) (why : ScriptWhy) → result ≡ Err (Failure.Refused line why) → IfSome (I.held inputs.old script.now) (λ text. (length text ≤ SCRIPT_LIMIT) × IsRefusedText line why text) }
+    ensures not_built { result ≡ Err Failure.NotBuilt → IfSome (I.held inputs.old script.now) (λ text. (length text ≤ SCRIPT_LIMIT) × IsOtherText window text) }
     ensures write_fault { result ≡ Err Failure.WriteFault → Rose (K.faults out.old) (K.faults out.new) }
-    ensures part { result ≡ Err Failure.WriteFault → IfSome (I.held inputs.old script.now) (WritesPart (K.taken out.old) (K.taken out.new)) }
-    ensures part_within { result ≡ Err Failure.WriteFault → IfSome (I.held inputs.old script.now) (λ bytes. length bytes ≤ SCRIPT_LIMIT) }
+    ensures part { result ≡ Err Failure.WriteFault → IfSome (I.held inputs.old script.now) (WritesPart window (K.taken out.old) (K.taken out.new)) }
+    ensures part_within { result ≡ Err Failure.WriteFault → IfSome (I.held inputs.old script.now) (λ text. length text ≤ SCRIPT_LIMIT) }
     ensures untouched { (failure : Failure) → result ≡ Err failure → (failure ≡ Failure.WriteFault → ⊥) → K.taken out.new ≡ K.taken out.old }
 {
-    let bytes = match read_all(alloc, inputs, script, SCRIPT_LIMIT) {
-        Ok(bytes) => bytes,
+    let text = match read_all(alloc, inputs, script, SCRIPT_LIMIT) {
+        Ok(text) => text,
         Err(ReadFail::ReadFault) => return Err(Failure::ReadFault),
         Err(ReadFail::TooLong) => return Err(Failure::TooLong),
         Err(ReadFail::Memory) => return Err(Failure::Memory),
     };
-    let Ok(report) = report_of(alloc, &bytes) else {
-        return Err(Failure::Memory);
+    let report = match report_of(alloc, window, &text) {
+        Ok(report) => report,
+        Err(NoReport::Memory) => return Err(Failure::Memory),
+        Err(NoReport::Refused(line, why)) => return Err(Failure::Refused { line, why }),
+        Err(NoReport::NotBuilt) => return Err(Failure::NotBuilt),
     };
-    let Some(report) = report else {
-        return Err(Failure::NotBuilt);
-    };
-    match write_all(out, report.as_bytes()) {
+    match write_all(out, report.as_slice()) {
         Ok(()) => Ok(()),
         Err(_) => Err(Failure::WriteFault),
     }
 }
 
-/// The report of a script; none where it isn't of the first path.
-fn report_of(alloc: Global, script: &Bytes) -> Result<Option<String>, AllocError>
-    ensures found { IfOk result (λ report. IfSome report (λ text. IsReportOf script.now (string_bytes text))) }
-    ensures none { IfOk result (λ report. IfNone report (first_path_of script.now ≡ None)) }
+/// Why a text has no report.
+#[derive(Clone, Copy, Debug, PartialEq, Eq)]
+pub(crate) enum NoReport {
+    Memory,
+    Refused(u32, neigh_script::ScriptWhy),
+    NotBuilt,
+}
+
+/// The report of a script's text.
+fn report_of(alloc: Global, window: u32, text: &Bytes) -> Result<Bytes, NoReport>
+    ensures made { IfOk result (IsReportOf window text.now) }
+    ensures refused { (line : ℕ) (why : ScriptWhy) → result ≡ Err (NoReport.Refused line why) → IsRefusedText line why text.now }
+    ensures other { result ≡ Err NoReport.NotBuilt → IsOtherText window text.now }
 {
-    match read_first_path(alloc, script.as_slice())? {
-        None => Ok(None),
-        Some(path) => Ok(Some(report(alloc, &path)?)),
+    let script = match read(alloc, text.as_slice()) {
+        Ok(script) => script,
+        Err(ScriptFail::Refused { line, why }) => return Err(NoReport::Refused(line, why)),
+        Err(ScriptFail::Memory) => return Err(NoReport::Memory),
+    };
+    match report_of_script(alloc, window, &script) {
+        Ok(Some(report)) => Ok(report),
+        Ok(None) => Err(NoReport::NotBuilt),
+        Err(_) => Err(NoReport::Memory),
     }
+}
+
+/// The report of a script; none where its plan isn't plain.
+fn report_of_script(
+    alloc: Global,
+    window: u32,
+    script: &Script,
+) -> Result<Option<Bytes>, AllocError>
+    requires within { limits.IsWithinLimits script.now }
+    requires few { length script.now.items ≤ 131_072 }
+    ensures made { IfOk result (λ made. IfSome made (IsScriptsReport window script.now)) }
+    ensures other { IfOk result (λ made. IfNone made (plans.is_plain (plan_of script.now window 1) ≡ false)) }
+{
+    let plan = plan(alloc, script, window, 1)?;
+    if !is_plain(alloc, &plan)? {
+        return Ok(None);
+    }
+    let run = replay_plain(alloc, plan)?;
+    Ok(Some(text(alloc, &run)?))
 }

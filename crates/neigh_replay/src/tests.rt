@@ -12,13 +12,68 @@ const PACKET: &str =
     "host dev eth0 lladdr 02:00:00:00:00:02 inet 10.0.0.2\n@0 neigh add 10.0.0.1 dev eth0 lladdr 00:11:22:33:44:55 nud permanent\n@5 send 1 10.0.0.1 4500\n";
 
 const EARLY: &str =
-    "host dev eth0 lladdr 02:00:00:00:00:02 inet 10.0.0.2\n@6 neigh add 10.0.0.1 dev eth0 lladdr 00:11:22:33:44:55 nud permanent\n@5 send 1 10.0.0.1 4500\n";
+    "host dev eth0 lladdr 02:00:00:00:00:02 inet 10.0.0.2\n@5 send 1 10.0.0.1 4500\n@6 neigh add 10.0.0.1 lladdr 00:11:22:33:44:55\n";
+
+const OTHER_DEVICE: &str =
+    "host dev eth0 lladdr 02:00:00:00:00:02 inet 10.0.0.2\n@0 neigh add 10.0.0.1 dev eth1\n";
+
+const FOUR_SENDERS: &str = "\
+host dev eth0 lladdr 02:00:00:00:00:02 inet 10.0.0.2
+senders 4
+@0 neigh add 10.0.0.1 lladdr 00:11:22:33:44:55
+@0 send 3 10.0.0.1 0a
+@0 send 1 10.0.0.1 0b
+@5 send 4 10.0.0.1 0c
+@5 neigh add 10.0.0.1 lladdr 00:11:22:33:44:66
+@5 neigh add 10.0.0.3 lladdr 00:11:22:33:44:77
+@5 send 2 10.0.0.3 0d
+@7 send 1 10.0.0.3 0e
+";
 
 const HOST_REPORT: &str =
     "neigh 1 mode inline buckets 1 senders 1 window 50\nhost dev eth0 lladdr 02:00:00:00:00:02 inet 10.0.0.2\nbucket 0 lines 0\nhost lines 0\nsender 1 items 0\nmarks 0\nfates sent 0 fast 0 dropped 0 waiting 0\ntable 0\nproxies 0\nend\n";
 
 const PACKET_REPORT: &str =
     "neigh 1 mode inline buckets 1 senders 1 window 50\nhost dev eth0 lladdr 02:00:00:00:00:02 inet 10.0.0.2\nbucket 0 lines 2\n0 0 32 add 10.0.0.1 00:11:22:33:44:55 permanent -> done\n1 5 33 send 10.0.0.1 -> sent\n  tx 33 00112233445502000000000208004500\nhost lines 1\n1 0 neigh op 0 0 done\nsender 1 items 1\n1 5 inline 1 sent\nmarks 0\nfates sent 1 fast 0 dropped 0 waiting 0\ntable 1\n10.0.0.1 dev eth0 lladdr 00:11:22:33:44:55 PERMANENT\nproxies 0\nend\n";
+
+const FOUR_SENDERS_REPORT: &str = "\
+neigh 1 mode inline buckets 1 senders 4 window 70
+host dev eth0 lladdr 02:00:00:00:00:02 inet 10.0.0.2
+bucket 0 lines 8
+0 0 32 add 10.0.0.1 00:11:22:33:44:55 permanent -> done
+1 0 33 send 10.0.0.1 -> sent
+  tx 33 00112233445502000000000208000b
+2 0 35 send 10.0.0.1 -> sent
+  tx 35 00112233445502000000000208000a
+3 5 64 add 10.0.0.1 00:11:22:33:44:66 permanent -> exists
+4 5 96 add 10.0.0.3 00:11:22:33:44:77 permanent -> done
+5 5 34 send 10.0.0.3 -> sent
+  tx 34 00112233447702000000000208000d
+6 5 36 send 10.0.0.1 -> sent
+  tx 36 00112233445502000000000208000c
+7 7 65 send 10.0.0.3 -> sent
+  tx 65 00112233447702000000000208000e
+host lines 3
+1 0 neigh op 0 0 done
+2 5 neigh op 0 3 exists
+3 5 neigh op 0 4 done
+sender 1 items 2
+1 0 inline 1 sent
+2 7 inline 7 sent
+sender 2 items 1
+1 5 inline 5 sent
+sender 3 items 1
+1 0 inline 2 sent
+sender 4 items 1
+1 5 inline 6 sent
+marks 0
+fates sent 5 fast 0 dropped 0 waiting 0
+table 2
+10.0.0.1 dev eth0 lladdr 00:11:22:33:44:55 PERMANENT
+10.0.0.3 dev eth0 lladdr 00:11:22:33:44:77 PERMANENT
+proxies 0
+end
+";
 
 const USAGE: &str =
     "neigh: usage: neigh --script FILE [--capture FILE] [--mode inline|threads] [--window MS] [--buckets N]\n";
@@ -37,7 +92,7 @@ struct Call {
 
 const NAMED: &[&str] = &["--script", "s"];
 
-const CALLS: [Call; 11] = [
+const CALLS: [Call; 16] = [
     Call {
         shows: "host_alone",
         words: NAMED,
@@ -77,6 +132,56 @@ const CALLS: [Call; 11] = [
         status: 9,
         out: "",
         err: "neigh: not built\n",
+    },
+    Call {
+        shows: "four senders with equal moments",
+        words: &["--window=70", "--script", "s"],
+        script: FOUR_SENDERS,
+        read_fails: 0,
+        write_fails: 0,
+        status: 0,
+        out: FOUR_SENDERS_REPORT,
+        err: "",
+    },
+    Call {
+        shows: "show_before_host",
+        words: NAMED,
+        script: "@0 neigh show\n",
+        read_fails: 0,
+        write_fails: 0,
+        status: 5,
+        out: "",
+        err: "neigh: script refused: 11 at line 1\n",
+    },
+    Call {
+        shows: "other_device",
+        words: NAMED,
+        script: OTHER_DEVICE,
+        read_fails: 0,
+        write_fails: 0,
+        status: 5,
+        out: "",
+        err: "neigh: script refused: 9 at line 2\n",
+    },
+    Call {
+        shows: "empty_script",
+        words: NAMED,
+        script: "",
+        read_fails: 0,
+        write_fails: 0,
+        status: 5,
+        out: "",
+        err: "neigh: script refused: 11 at line 1\n",
+    },
+    Call {
+        shows: "65 buckets",
+        words: &["--script", "s", "--buckets", "65"],
+        script: HOST,
+        read_fails: 0,
+        write_fails: 0,
+        status: 2,
+        out: "",
+        err: USAGE,
     },
     Call {
         shows: "no_words",
@@ -193,6 +298,42 @@ fn calls_have_their_reports_statuses_and_lines(rt: HostRuntime) -> Result<(), Fa
         assert_eq!(rt; status, call.status, "{}", call.shows);
         assert_eq!(rt; out.bytes(), call.out.as_bytes(), "{}", call.shows);
         assert_eq!(rt; err.bytes(), call.err.as_bytes(), "{}", call.shows);
+    }
+    Ok(())
+}
+
+/// A host line, and a packet of so many bytes.
+fn packet_of(alloc: Global, len: usize) -> Result<Bytes, AllocError> {
+    let mut text = String::from_str(alloc, HOST)?;
+    text.push_str("@0 send 1 10.0.0.1 ")?;
+    for _ in 0..len {
+        text.push_str("00")?;
+    }
+    Ok(Items::from_vec(text.into_bytes()))
+}
+
+/// The packet is accepted, though the plan isn't plain, or it is refused.
+#[test]
+fn payload_of_1500_and_1501_bytes(rt: HostRuntime) -> Result<(), Fail> {
+    let alloc = rt.alloc();
+    for (len, expected) in [(1500, 9), (1501, 5)] {
+        let mut inputs = one_file(alloc, packet_of(alloc, len)?, &[])?;
+        let mut out = MemorySink::new(alloc, 10, 10, &[])?;
+        let mut err = MemorySink::new(alloc, 200, 200, &[])?;
+        let words = strings(alloc, NAMED)?;
+        let status = run(
+            &rt,
+            alloc,
+            &words,
+            &mut inputs,
+            &mut out,
+            &mut err,
+            &OpenGate,
+        );
+        assert_eq!(rt; status, expected, "{len} bytes");
+        if expected == 5 {
+            assert_eq!(rt; err.bytes(), b"neigh: script refused: 7 at line 2\n".as_slice());
+        }
     }
     Ok(())
 }

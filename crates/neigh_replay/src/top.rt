@@ -1,15 +1,15 @@
 //! The whole command.
 ghost use Rattle.std.specs.Prelude.{◌≡◌, ◌≢◌, ℕ, ◌<◌, ◌≤◌, List, [], ◌∷◌, map, length, None, Ok, Err, OnOk, IfSome, string_bytes};
 ghost use Rattle.nb_io.specs.Faults.{Rose};
-ghost use Rattle.neigh_replay.specs.FirstPath.{first_path_of};
-ghost use Rattle.neigh_replay.specs.Replay.{WritesReport, WritesPart, IsReplay, IsCommand, outside, sink_call};
+ghost use Rattle.neigh_script.specs.declared.why.ScriptWhy.{ScriptWhy};
+ghost use Rattle.neigh_replay.specs.Replay.{WritesReport, WritesPart, IsOtherText, IsRefusedText, IsRefusal, IsReplay, IsCommand, outside, sink_call};
 ghost use Rattle.neigh_replay.specs.Status.{Says, IsOneOf, line_for, usage_line};
 ghost use Rattle.neigh_replay.specs.Status as status;
 
-use crate::command::settings;
 use crate::options::{Settings, SettingsFail};
 use crate::replay::{Failure, SCRIPT_LIMIT, replay};
 use crate::status::{line_of, say};
+use crate::words_of_command::settings;
 use nb_io::{Gate, Inputs, Sink};
 use std::alloc::Global;
 
@@ -63,23 +63,25 @@ fn say_usage<E: Sink>(err: &mut E)
 fn replay_and_tell<I: Inputs, K: Sink, E: Sink>(
     alloc: Global,
     script: &str,
+    window: u32,
     inputs: &mut I,
     out: &mut K,
     err: &mut E,
 ) -> Result<(), Failure>
-    ensures ok { OnOk result (IfSome (I.held inputs.old script.now) (WritesReport (K.taken out.old) (K.taken out.new))) }
+    ensures ok { OnOk result (IfSome (I.held inputs.old script.now) (WritesReport window (K.taken out.old) (K.taken out.new))) }
     ensures ok_within { OnOk result (IfSome (I.held inputs.old script.now) (λ bytes. length bytes ≤ SCRIPT_LIMIT)) }
     ensures quiet { OnOk result (E.taken err.new ≡ E.taken err.old) }
     ensures read_fault { result ≡ Err Failure.ReadFault → Rose (I.faults inputs.old script.now) (I.faults inputs.new script.now) }
     ensures too_long { result ≡ Err Failure.TooLong → IfSome (I.held inputs.old script.now) (λ bytes. SCRIPT_LIMIT < length bytes) }
-    ensures not_built { result ≡ Err Failure.NotBuilt → IfSome (I.held inputs.old script.now) (λ bytes. (length bytes ≤ SCRIPT_LIMIT) × (first_path_of bytes ≡ None)) }
+    ensures refused { (line : ℕ) (why : ScriptWhy) → result ≡ Err (Failure.Refused line why) → IfSome (I.held inputs.old script.now) (λ text. (length text ≤ SCRIPT_LIMIT) × IsRefusedText line why text) }
+    ensures not_built { result ≡ Err Failure.NotBuilt → IfSome (I.held inputs.old script.now) (λ text. (length text ≤ SCRIPT_LIMIT) × IsOtherText window text) }
     ensures write_fault { result ≡ Err Failure.WriteFault → Rose (K.faults out.old) (K.faults out.new) }
-    ensures part { result ≡ Err Failure.WriteFault → IfSome (I.held inputs.old script.now) (WritesPart (K.taken out.old) (K.taken out.new)) }
+    ensures part { result ≡ Err Failure.WriteFault → IfSome (I.held inputs.old script.now) (WritesPart window (K.taken out.old) (K.taken out.new)) }
     ensures part_within { result ≡ Err Failure.WriteFault → IfSome (I.held inputs.old script.now) (λ bytes. length bytes ≤ SCRIPT_LIMIT) }
     ensures untouched { (failure : Failure) → result ≡ Err failure → (failure ≡ Failure.WriteFault → ⊥) → K.taken out.new ≡ K.taken out.old }
     ensures said { (failure : Failure) → result ≡ Err failure → Says (E.taken err.old) (E.taken err.new) (E.faults err.old) (E.faults err.new) (status.line_of failure script.now) }
 {
-    match replay(alloc, script, inputs, out) {
+    match replay(alloc, script, window, inputs, out) {
         Ok(()) => Ok(()),
         Err(failure) => Err(tell(alloc, failure, script, err)),
     }
@@ -89,34 +91,37 @@ fn replay_and_tell<I: Inputs, K: Sink, E: Sink>(
 fn replay_status<I: Inputs, K: Sink, E: Sink>(
     alloc: Global,
     script: &str,
+    window: u32,
     inputs: &mut I,
     out: &mut K,
     err: &mut E,
 ) -> u8
-    ensures answer { IsOneOf (0 ∷ 1 ∷ 3 ∷ 6 ∷ 8 ∷ 9 ∷ []) result }
-    ensures done { result ≡ 0 → IfSome (I.held inputs.old script.now) (WritesReport (K.taken out.old) (K.taken out.new)) }
+    ensures answer { IsOneOf (0 ∷ 1 ∷ 3 ∷ 5 ∷ 6 ∷ 8 ∷ 9 ∷ []) result }
+    ensures done { result ≡ 0 → IfSome (I.held inputs.old script.now) (WritesReport window (K.taken out.old) (K.taken out.new)) }
     ensures done_within { result ≡ 0 → IfSome (I.held inputs.old script.now) (λ bytes. length bytes ≤ SCRIPT_LIMIT) }
     ensures quiet { result ≡ 0 → E.taken err.new ≡ E.taken err.old }
     ensures read_fault { result ≡ 3 → Rose (I.faults inputs.old script.now) (I.faults inputs.new script.now) }
     ensures write_fault { result ≡ 6 → Rose (K.faults out.old) (K.faults out.new) }
-    ensures part { result ≡ 6 → IfSome (I.held inputs.old script.now) (WritesPart (K.taken out.old) (K.taken out.new)) }
+    ensures part { result ≡ 6 → IfSome (I.held inputs.old script.now) (WritesPart window (K.taken out.old) (K.taken out.new)) }
     ensures part_within { result ≡ 6 → IfSome (I.held inputs.old script.now) (λ bytes. length bytes ≤ SCRIPT_LIMIT) }
     ensures too_long { result ≡ 8 → IfSome (I.held inputs.old script.now) (λ bytes. SCRIPT_LIMIT < length bytes) }
-    ensures not_built { result ≡ 9 → IfSome (I.held inputs.old script.now) (λ bytes. (length bytes ≤ SCRIPT_LIMIT) × (first_path_of bytes ≡ None)) }
+    ensures refused { result ≡ 5 → IsRefusal script.now (I.held inputs.old script.now) (sink_call (E.taken err.old) (E.taken err.new) (E.faults err.old) (E.faults err.new)) }
+    ensures not_built { result ≡ 9 → IfSome (I.held inputs.old script.now) (λ text. (length text ≤ SCRIPT_LIMIT) × IsOtherText window text) }
     ensures untouched { result ≢ 0 → result ≢ 6 → K.taken out.new ≡ K.taken out.old }
-    ensures said { result ≢ 0 → Says (E.taken err.old) (E.taken err.new) (E.faults err.old) (E.faults err.new) (line_for result script.now) }
+    ensures said { result ≢ 0 → result ≢ 5 → Says (E.taken err.old) (E.taken err.new) (E.faults err.old) (E.faults err.new) (line_for result script.now) }
 {
-    match replay_and_tell(alloc, script, inputs, out, err) {
+    match replay_and_tell(alloc, script, window, inputs, out, err) {
         Ok(()) => 0,
         Err(Failure::Memory) => 1,
         Err(Failure::ReadFault) => 3,
+        Err(Failure::Refused { .. }) => 5,
         Err(Failure::WriteFault) => 6,
         Err(Failure::TooLong) => 8,
         Err(Failure::NotBuilt) => 9,
     }
 }
 
-/// Replays the script by one thread and answers the status.
+/// Replays the script by one thread, with one bucket, and answers the status. It takes no notice of the settings' mode.
 pub fn run_inline<I: Inputs, K: Sink, E: Sink>(
     alloc: Global,
     settings: &Settings,
@@ -124,11 +129,11 @@ pub fn run_inline<I: Inputs, K: Sink, E: Sink>(
     out: &mut K,
     err: &mut E,
 ) -> u8
-    ensures { IsReplay (string_bytes settings.now.script) (outside (I.held inputs.old) (I.faults inputs.old) (I.faults inputs.new)
+    ensures { IsReplay (string_bytes settings.now.script) settings.now.window (outside (I.held inputs.old) (I.faults inputs.old) (I.faults inputs.new)
         (sink_call (K.taken out.old) (K.taken out.new) (K.faults out.old) (K.faults out.new))
         (sink_call (E.taken err.old) (E.taken err.new) (E.faults err.old) (E.faults err.new))) result }
 {
-    replay_status(alloc, settings.script.as_str(), inputs, out, err)
+    replay_status(alloc, settings.script.as_str(), settings.window, inputs, out, err)
 }
 
 // Says that no memory was left before anything was read.

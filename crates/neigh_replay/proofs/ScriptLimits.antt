@@ -1,0 +1,23 @@
+-- The plan of a script within its limits is within a plan's limits.
+use Rattle.std.proofs.Common.{◌≡◌, ℕ, ◌≤◌, List, [], ◌∷◌, length, map, refl, sym, ap, subst}
+use Rattle.std.proofs.lemmas.List.{length-map}
+use Rattle.neigh_script.specs.declared.script.Script.{Script}
+use Rattle.neigh_script.specs.declared.script.ScriptItem.{ScriptItem}
+use Rattle.neigh_script.specs.Context.{at_of}
+use Rattle.neigh_script.specs.Limits.{AreInOrder}
+use Rattle.neigh_script.specs.Limits as limits
+use Rattle.neigh_run.specs.Plan.{RisesFrom, IsScriptWithinLimits, plan_of}
+
+rises : (from : ℕ) (items : List ScriptItem) → AreInOrder from items → RisesFrom from (map at_of items)
+rises from [] h = tt {0}
+rises from (item ∷ items) h = (h.0, rises (at_of item) items h.1)
+
+pub script_within : (script : Script) → limits.IsWithinLimits script → length script.items ≤ 131_072 → IsScriptWithinLimits script
+script_within script h few = record {
+    items = record { rises = rises 0 script.items h.order; few = subst (λ (n : ℕ). n ≤ 131_072) (sym (length-map script.items at_of)) few };
+    few = h.senders.1;
+  }
+
+pub one_bucket : (script : Script) (window : ℕ) → (plan_of script window 1).buckets ≡ 1
+unfolding plan_of
+one_bucket script window = refl

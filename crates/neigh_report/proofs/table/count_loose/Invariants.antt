@@ -1,0 +1,10 @@
+use Rattle.std.proofs.Common.{◌≡◌, ◌≤◌, take, length}
+use Rattle.std.specs.Prelude.{filter}
+use Rattle.neigh_report.specs.Slots.{is_loose}
+use Rattle.neigh_report.proofs.table.count_loose.Given as goal
+
+abbrev pub invariant-loop-slot : goal.invariant-loop-slot
+invariant-loop-slot l = record {
+  few : l.count ≤ l.slot-index;
+  counts : l.count ≡ length (filter is_loose (take l.slot-index l.slots));
+}

@@ -1,0 +1,4 @@
+pub mod Spaced
+pub mod Slots
+pub mod Left
+pub mod Verdicts

@@ -1,0 +1,200 @@
+//! What an operation comes to for one key.
+ghost use Rattle.std.specs.Prelude.{◌≡◌, ◌≤◌, not, if◌then◌else◌, is_none, Some, IfSome};
+ghost use Rattle.nb_base.specs.declared.line.Reply.TheVariants.{Exists, Missing, NoAddress};
+ghost use Rattle.nb_base.specs.declared.nud.Nud.TheVariants.{Failed};
+ghost use Rattle.nud_machine.specs.Asked.{greatest, IsInRun};
+ghost use Rattle.nud_machine.specs.State.{same_nud};
+ghost use Rattle.nud_machine.specs.declared.event.Event.TheVariants.{Admin};
+ghost use Rattle.nud_machine.specs.Update as update;
+ghost use Rattle.nb_journal.specs.Fold as spec;
+ghost use Rattle.nb_journal.specs.Evaluated.{state_in};
+ghost use Rattle.neigh_report.specs.Slots.{effect_named};
+
+use nb_base::{Line, Mac, Moment, Nud, Op, OpId, Params, Reply};
+use nb_journal::Kept;
+use nud_machine::Event;
+
+/// Nothing, a refusal with its reply, or an event, for which an absent entry is made first.
+#[derive(Clone, Copy)]
+pub enum Effect {
+    Passes,
+    Refuses(Reply),
+    Brings(Event),
+}
+
+pub fn id_of(line: &Line) -> OpId
+    ensures { result ≡ spec.id_of line.now }
+{
+    line.id.unwrap_or(OpId(0))
+}
+
+/// Whether a moment lies more than so many milliseconds back, or there is none.
+fn is_past(at: Moment, since: Option<Moment>, millis: u32) -> bool
+    requires { IfSome since (λ then_at. then_at ≤ greatest) }
+    ensures { result ≡ spec.is_past at since millis }
+{
+    match since {
+        None => true,
+        Some(since) => since.after(millis) < at,
+    }
+}
+
+fn is_fixed(nud: Nud) -> bool
+    ensures { result ≡ update.is_fixed nud }
+{
+    matches!(nud, Nud::Permanent | Nud::Noarp)
+}
+
+fn is_failed(nud: Nud) -> bool
+    ensures { result ≡ same_nud nud Failed }
+{
+    nud.bits() == Nud::Failed.bits()
+}
+
+/// Whether the entry is present, and neither PERMANENT nor NOARP.
+pub fn is_loose(kept: &Kept) -> bool
+    ensures { result ≡ spec.is_loose (state_in kept.now) }
+{
+    kept.entry.present && !is_fixed(kept.entry.nud)
+}
+
+fn has_waiting(kept: &Kept) -> bool
+    ensures { result ≡ spec.has_waiting (state_in kept.now) }
+{
+    kept.waiting.len() > 0
+}
+
+/// Whether a sweep removes the entry.
+fn is_swept(params: &Params, at: Moment, kept: &Kept) -> bool
+    requires { IsInRun kept.now.entry }
+    ensures { result ≡ spec.is_swept params.now at (state_in kept.now) }
+{
+    is_loose(kept)
+        && !has_waiting(kept)
+        && (is_failed(kept.entry.nud)
+            || (is_past(at, Some(kept.entry.used), params.gc_stale_time)
+                && is_past(at, kept.entry.confirmed, params.gc_stale_time)))
+}
+
+/// The event, or else nothing.
+fn if_so(holds: bool, event: Event) -> Effect
+    ensures { effect_named result ≡ spec.if_so holds event }
+{
+    if holds {
+        Effect::Brings(event)
+    } else {
+        Effect::Passes
+    }
+}
+
+/// The event, or else the refusal.
+fn where_so(holds: bool, event: Event, reply: Reply) -> Effect
+    ensures { effect_named result ≡ (if holds then spec.Brings event else spec.Refuses reply) }
+{
+    if holds {
+        Effect::Brings(event)
+    } else {
+        Effect::Refuses(reply)
+    }
+}
+
+/// The refusal, or else the event.
+fn refused_where(holds: bool, reply: Reply, event: Event) -> Effect
+    ensures { effect_named result ≡ (if holds then spec.Refuses reply else spec.Brings event) }
+{
+    if holds {
+        Effect::Refuses(reply)
+    } else {
+        Effect::Brings(event)
+    }
+}
+
+/// Whether no address is given and the entry has none.
+fn lacks_address(mac: Option<Mac>, kept: &Kept) -> bool
+    ensures { result ≡ spec.lacks_address mac (state_in kept.now) }
+{
+    mac.is_none() && !kept.entry.nud.is_valid()
+}
+
+fn add(present: bool, mac: Option<Mac>, nud: Nud) -> Effect
+    ensures { effect_named result ≡ (if present then spec.Refuses Exists else (if is_none mac then spec.Refuses NoAddress else spec.Brings (Admin mac nud))) }
+{
+    if present {
+        Effect::Refuses(Reply::Exists)
+    } else {
+        refused_where(mac.is_none(), Reply::NoAddress, Event::Admin { mac, nud })
+    }
+}
+
+fn change(kept: &Kept, mac: Option<Mac>, nud: Nud) -> Effect
+    ensures { effect_named result ≡ (if not kept.now.entry.present then spec.Refuses Missing else (if spec.lacks_address mac (state_in kept.now) then spec.Refuses NoAddress else spec.Brings (Admin mac nud))) }
+{
+    if kept.entry.present {
+        refused_where(
+            lacks_address(mac, kept),
+            Reply::NoAddress,
+            Event::Admin { mac, nud },
+        )
+    } else {
+        Effect::Refuses(Reply::Missing)
+    }
+}
+
+/// What an operation comes to, by the state of the entry.
+pub fn effect_of(params: &Params, line: &Line, kept: &Kept) -> Effect
+    requires { IsInRun kept.now.entry }
+    ensures { effect_named result ≡ spec.effect params.now line.now (state_in kept.now) line.now.op }
+{
+    let present = kept.entry.present;
+    match line.op {
+        Op::Send { .. } => Effect::Brings(Event::Send(id_of(line))),
+        Op::Arp {
+            mac,
+            make,
+            solicited,
+            ..
+        } => where_so(
+            present || make,
+            Event::Arp { mac, solicited },
+            Reply::Ignored,
+        ),
+        Op::Ns { mac, .. } => Effect::Brings(Event::Ns { mac }),
+        Op::Na {
+            mac,
+            router,
+            solicited,
+            overrides,
+            ..
+        } => {
+            let event = Event::Na {
+                mac,
+                router,
+                solicited,
+                overrides,
+            };
+            where_so(present, event, Reply::Ignored)
+        }
+        Op::Add { mac, nud, .. } => add(present, mac, nud),
+        Op::Change { mac, nud, .. } => change(kept, mac, nud),
+        Op::Replace { mac, nud, .. } => {
+            refused_where(
+                lacks_address(mac, kept),
+                Reply::NoAddress,
+                Event::Admin { mac, nud },
+            )
+        }
+        Op::Del { .. } => refused_where(!present, Reply::Missing, Event::Remove),
+        Op::Confirm { .. } => {
+            where_so(
+                present && kept.entry.nud.is_valid(),
+                Event::Confirm,
+                Reply::Ignored,
+            )
+        }
+        Op::Show => Effect::Passes,
+        Op::Flush => if_so(is_loose(kept), Event::Remove),
+        Op::Timer { .. } => if_so(present, Event::Timer),
+        Op::Sweep => if_so(is_swept(params, line.at, kept), Event::Remove),
+        Op::Collect { .. } => if_so(present, Event::Remove),
+    }
+}

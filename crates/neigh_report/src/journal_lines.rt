@@ -1,0 +1,92 @@
+//! The lines of a journal and their acts.
+ghost use Rattle.std.specs.Prelude.{◌≡◌, ◌++◌, ◌∷◌, [], take, string_bytes, codes, decimal, OnOk};
+ghost use Rattle.std.specs.List.{flat_map};
+ghost use Rattle.text_codes.specs.Lines.{line_text, text_of};
+ghost use Rattle.neigh_run.specs.Spelling as spelling;
+ghost use Rattle.neigh_run.specs.Spelling.{id_word, op_words, reply_part};
+ghost use Rattle.text_codes.specs.HexText.{hex_text};
+ghost use Rattle.neigh_run.specs.Frames as frames;
+ghost use Rattle.neigh_run.specs.Report as report_of;
+
+use crate::frames::write_sent_frame;
+use crate::spelling::cause_word;
+use crate::words::{add_answer, add_id, add_op};
+use nb_base::{Line, Mac, OpId, Plan, Reply};
+use nud_machine::{Act, Cause};
+use std::alloc::AllocError;
+use std::fmt::Write;
+
+/// A bucket's number, and how many lines its journal has.
+#[tactic(auto, unfolding(text_codes::specs::Lines::line_text))]
+pub fn write_bucket(report: &mut String, number: usize, lines: usize) -> Result<(), AllocError>
+    ensures { OnOk result (string_bytes report.new ≡ string_bytes report.old ++ line_text (codes "bucket" ∷ decimal number ∷ codes "lines" ∷ decimal lines ∷ [])) }
+{
+    writeln!(report, "bucket {number} lines {lines}")?;
+    Ok(())
+}
+
+/// A line at its place, with its reply.
+pub fn write_line(
+    report: &mut String,
+    place: usize,
+    line: &Line,
+    reply: Option<Reply>,
+) -> Result<(), AllocError>
+    ensures { OnOk result (string_bytes report.new ≡ string_bytes report.old ++ line_text (decimal place ∷ decimal line.now.at ∷ id_word line.now.id ∷ (op_words line.now.op ++ codes "->" ∷ reply_part reply))) }
+{
+    write!(report, "{place} {}", line.at)?;
+    add_id(report, line.id)?;
+    add_op(report, &line.op)?;
+    add_answer(report, reply)?;
+    writeln!(report)?;
+    Ok(())
+}
+
+#[tactic(auto, unfolding(text_codes::specs::Lines::line_text))]
+fn write_transmit(report: &mut String, plan: &Plan, id: OpId, mac: &Mac) -> Result<(), AllocError>
+    ensures { OnOk result (string_bytes report.new ≡ string_bytes report.old ++ line_text (report_of.set_in (codes "tx" ∷ decimal id.0 ∷ hex_text (frames.sent_frame plan.now id mac.now) ∷ []))) }
+{
+    write!(report, "  tx {id} ")?;
+    write_sent_frame(report, plan, id, mac)?;
+    writeln!(report)?;
+    Ok(())
+}
+
+#[tactic(auto, unfolding(text_codes::specs::Lines::line_text))]
+fn write_wait(report: &mut String, id: OpId) -> Result<(), AllocError>
+    ensures { OnOk result (string_bytes report.new ≡ string_bytes report.old ++ line_text (report_of.set_in (codes "wait" ∷ decimal id.0 ∷ []))) }
+{
+    writeln!(report, "  wait {id}")?;
+    Ok(())
+}
+
+#[tactic(auto, unfolding(text_codes::specs::Lines::line_text))]
+fn write_drop(report: &mut String, id: OpId, cause: Cause) -> Result<(), AllocError>
+    ensures { OnOk result (string_bytes report.new ≡ string_bytes report.old ++ line_text (report_of.set_in (codes "drop" ∷ decimal id.0 ∷ spelling.cause_word cause ∷ []))) }
+{
+    let word = cause_word(cause);
+    writeln!(report, "  drop {id} {word}")?;
+    Ok(())
+}
+
+/// An act. Solicitations aren't spelled.
+fn write_act(report: &mut String, plan: &Plan, act: &Act) -> Result<(), AllocError>
+    ensures { OnOk result (string_bytes report.new ≡ string_bytes report.old ++ text_of (report_of.act_lines plan.now act.now)) }
+{
+    match act {
+        Act::Transmit(id, mac) => write_transmit(report, plan, *id, mac),
+        Act::Wait(id) => write_wait(report, *id),
+        Act::Drop(id, cause) => write_drop(report, *id, *cause),
+        Act::SolicitGroup | Act::SolicitUnicast(_) => Ok(()),
+    }
+}
+
+/// The acts of a line, in their order.
+pub fn write_acts(report: &mut String, plan: &Plan, acts: &[Act]) -> Result<(), AllocError>
+    ensures { OnOk result (string_bytes report.new ≡ string_bytes report.old ++ text_of (flat_map (report_of.act_lines plan.now) acts.now)) }
+{
+    for act in acts {
+        write_act(report, plan, act)?;
+    }
+    Ok(())
+}
