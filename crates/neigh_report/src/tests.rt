@@ -1,12 +1,12 @@
-use crate::entries::write_listed;
-use crate::head::write_marks;
+use crate::entries::{write_entry, write_listed};
+use crate::head::{write_count, write_end, write_fates, write_head, write_host, write_marks};
 use crate::host_journal::write_host_journal;
-use crate::journal_lines::{write_acts, write_line};
+use crate::journal_lines::{write_acts, write_bucket, write_line};
 use crate::logs::write_logs;
-use crate::text;
+use crate::proxies::write_proxies;
 use nb_base::{
-    Bytes, Class, Host, HostLine, Items, Key, Line, Log, Mac, Mark, Mode, Moment, Name, Nud, Op,
-    OpId, Outcome, Params, Placed, Plan, Reply, SendItem, Why,
+    Bytes, Class, Host, HostLine, Items, Key, Line, Mac, Mark, Mode, Moment, Name, Nud, Op, OpId,
+    Outcome, Params, Placed, Plan, Reply, SendItem, Why,
 };
 use neigh_run::Run;
 use nud_machine::{Act, Cause, Entry};
@@ -85,48 +85,65 @@ fn run(alloc: Global, host: Host) -> Result<Run, AllocError> {
 }
 
 /// The journal of one permanent entry and a packet to it.
-fn packet_journal(alloc: Global) -> Result<Items<Line>, AllocError> {
+fn write_journal(report: &mut String, plan: &Plan) -> Result<(), AllocError> {
     let add = Op::Add {
         key: ONE,
         mac: Some(A),
         nud: Nud::Permanent,
     };
-    let mut lines = Items::new(alloc);
-    lines.push(own(0, 32, add))?;
-    lines.push(own(5, 33, Op::Send { key: ONE }))?;
-    Ok(lines)
+    write_bucket(report, 0, 2)?;
+    write_line(report, 0, &own(0, 32, add), Some(Reply::Done))?;
+    let send = own(5, 33, Op::Send { key: ONE });
+    write_line(report, 1, &send, Some(Reply::Sent))?;
+    write_acts(report, plan, &[Act::Transmit(OpId(33), A)])
 }
 
-fn packet_host_line(alloc: Global) -> Result<HostLine, AllocError> {
-    let mut ops = Items::new(alloc);
-    ops.push(Placed {
+fn write_items(alloc: Global, report: &mut String, plan: &Plan) -> Result<(), AllocError> {
+    let placed = Placed {
         bucket: 0,
         place: 0,
         reply: Reply::Done,
-    })?;
-    Ok(HostLine::Neigh {
+    };
+    let mut ops = Items::new(alloc);
+    ops.push(placed)?;
+    let line = HostLine::Neigh {
         n: 1,
         at: Moment(0),
         ops,
-    })
-}
-
-fn packet_log(alloc: Global) -> Result<Log, AllocError> {
+    };
+    write_host_journal(report, &[line])?;
     let mut log = Items::new(alloc);
     log.push(Outcome::Slow {
         why: Why::Inline,
         place: 1,
         reply: Reply::Sent,
     })?;
-    Ok(log)
+    write_logs(report, plan.senders.as_slice(), &[log])
 }
 
-fn packet_report(alloc: Global, host: Host) -> Result<Bytes, AllocError> {
-    let mut run = run(alloc, host)?;
-    run.journals.push(packet_journal(alloc)?)?;
-    run.host_lines.push(packet_host_line(alloc)?)?;
-    run.logs.push(packet_log(alloc)?)?;
-    text(alloc, &run)
+fn write_rest(alloc: Global, report: &mut String, plan: &Plan) -> Result<(), AllocError> {
+    let entry = Entry {
+        nud: Nud::Permanent,
+        mac: Some(A),
+        ..Entry::made(Moment(0))
+    };
+    write_marks(report, &[])?;
+    write_fates(report, 1, 0, 0, 0)?;
+    write_count(report, "table", 1)?;
+    write_entry(report, &plan.host, &ONE, &entry)?;
+    write_proxies(alloc, report, &plan.host, plan.control.as_slice())?;
+    write_end(report)
+}
+
+fn packet_report(alloc: Global, host: Host) -> Result<String, AllocError> {
+    let run = run(alloc, host)?;
+    let mut report = String::new(alloc);
+    write_head(&mut report, &run)?;
+    write_host(&mut report, &run.plan.host)?;
+    write_journal(&mut report, &run.plan)?;
+    write_items(alloc, &mut report, &run.plan)?;
+    write_rest(alloc, &mut report, &run.plan)?;
+    Ok(report)
 }
 
 fn write_waits(report: &mut String, plan: &Plan) -> Result<(), AllocError> {
@@ -264,7 +281,7 @@ fn host_lines(alloc: Global) -> Result<String, AllocError> {
 fn permanent_entry_and_packet(rt: HostRuntime) -> Result<(), Fail> {
     let host = host().expect(&rt, "a name");
     let report = packet_report(rt.alloc(), host)?;
-    assert_eq!(rt; report.as_slice(), PACKET_REPORT.as_bytes());
+    assert_eq!(rt; report.as_str(), PACKET_REPORT);
     Ok(())
 }
 
