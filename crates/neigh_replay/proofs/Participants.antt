@@ -39,8 +39,8 @@ control_snoc n [] x = let same : n + 0 ≡ n = omega arith in rw same (append-ni
 control_snoc n (y ∷ ys) x =
     let next : n + suc (length ys) ≡ n + 1 + length ys = omega arith in
     rw next (
-      ap (λ (zs : List Entered). option_to_list (control_op n y) ++ zs) (control_snoc (n + 1) ys x)
-      ∙ sym (append_assoc (option_to_list (control_op n y)) (control_ops (n + 1) ys) (option_to_list (control_op (n + 1 + length ys) x)))
+    ap (λ (zs : List Entered). option_to_list (control_op n y) ++ zs) (control_snoc (n + 1) ys x)
+    ∙ sym (append_assoc (option_to_list (control_op n y)) (control_ops (n + 1) ys) (option_to_list (control_op (n + 1 + length ys) x)))
     )
 
 -- one item of participant 0 more
@@ -80,8 +80,8 @@ senders_snoc p [] items = let same : p + 0 ≡ p = omega arith in rw same (appen
 senders_snoc p (y ∷ ys) items =
     let next : p + suc (length ys) ≡ p + 1 + length ys = omega arith in
     rw next (
-      ap (λ (zs : List Entered). sender_ops p 1 y ++ zs) (senders_snoc (p + 1) ys items)
-      ∙ sym (append_assoc (sender_ops p 1 y) (senders_ops (p + 1) ys) (sender_ops (p + 1 + length ys) 1 items))
+    ap (λ (zs : List Entered). sender_ops p 1 y ++ zs) (senders_snoc (p + 1) ys items)
+    ∙ sym (append_assoc (sender_ops p 1 y) (senders_ops (p + 1) ys) (sender_ops (p + 1 + length ys) 1 items))
     )
 
 -- participant 0 and the first senders, merged
@@ -100,13 +100,13 @@ merged_more items senders i own lt at =
     sym (insert_lines-append [] (lines_of (first ++ before)) (lines_of next))
     ∙ ap (insert_lines []) (sym (map-append line_of (first ++ before) next))
     ∙ ap (λ (xs : List Entered). insert_lines [] (lines_of xs)) (
-      append_assoc first before next
-      ∙ ap (λ (xs : List Entered). first ++ xs) (
-        ap (λ (n : ℕ). before ++ sender_ops n 1 own) (sym number)
-        ∙ sym (senders_snoc 1 (take i senders) own)
-        ∙ ap (λ (y : List SendItem). senders_ops 1 (take i senders ++ y ∷ [])) at
-        ∙ ap (senders_ops 1) (sym (take_more senders i own lt))
-      )
+    append_assoc first before next
+    ∙ ap (λ (xs : List Entered). first ++ xs) (
+    ap (λ (n : ℕ). before ++ sender_ops n 1 own) (sym number)
+    ∙ sym (senders_snoc 1 (take i senders) own)
+    ∙ ap (λ (y : List SendItem). senders_ops 1 (take i senders ++ y ∷ [])) at
+    ∙ ap (senders_ops 1) (sym (take_more senders i own lt))
+    )
     )
 
 -- participant 0 alone

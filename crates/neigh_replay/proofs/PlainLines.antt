@@ -15,8 +15,8 @@ log_snoc p place [] x = let same : place + 0 ≡ place = omega arith in rw same 
 log_snoc p place (l ∷ ls) x =
     let next : place + suc (length ls) ≡ place + 1 + length ls = omega arith in
     rw next (
-      ap (λ (os : List Outcome). plain_outcome p place l ++ os) (log_snoc p (place + 1) ls x)
-      ∙ sym (append_assoc (plain_outcome p place l) (plain_log p (place + 1) ls) (plain_outcome p (place + 1 + length ls) x))
+    ap (λ (os : List Outcome). plain_outcome p place l ++ os) (log_snoc p (place + 1) ls x)
+    ∙ sym (append_assoc (plain_outcome p place l) (plain_log p (place + 1) ls) (plain_outcome p (place + 1 + length ls) x))
     )
 
 pub plain_log_more : (p : ℕ) (lines : List Line) (i : ℕ) (x : Line) → i < length lines → x ≡ get_or lines i x → plain_log p 0 (take (i + 1) lines) ≡ plain_log p 0 (take i lines) ++ plain_outcome p i x

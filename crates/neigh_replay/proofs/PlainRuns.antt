@@ -83,10 +83,10 @@ whole plan = lines_of (merged plan)
 found : (plan : Plan) (past rest : List Entered) (x : Entered) → IsPlainPlan plan → merged plan ≡ past ++ x ∷ rest → place_in plan.params (whole plan) x.id ≡ (length past, Some (plain_reply (is_added past) x.op))
 found plan past rest x p e =
     ap (λ (o : Option (ℕ × Option Reply)). unwrap_or o (0, None)) (
-      ap (λ (ps : Params). find_place ps [] (whole plan) x.id) p.params
-      ∙ found_alike [] [] (merged plan) x.id p.ready
-      ∙ ap (λ (xs : List Entered). find_entered [] xs x.id) e
-      ∙ found_here past rest x (subst (λ (xs : List Entered). count (has_id x.id) xs ≤ 1) e (p.once x.id))
+    ap (λ (ps : Params). find_place ps [] (whole plan) x.id) p.params
+    ∙ found_alike [] [] (merged plan) x.id p.ready
+    ∙ ap (λ (xs : List Entered). find_entered [] xs x.id) e
+    ∙ found_here past rest x (subst (λ (xs : List Entered). count (has_id x.id) xs ≤ 1) e (p.once x.id))
     )
 
 abbrev placed : Plan → OpId → Placed
@@ -137,9 +137,9 @@ logs_are : (plan : Plan) (p : ℕ) (senders : List (List SendItem)) → 1 ≤ p 
 logs_are plan p [] positive one is owns = refl
 logs_are plan p (items ∷ rest) positive one is owns =
     ap (λ (log : List Outcome). log ∷ plain_logs (p + 1) (length rest) (whole plan)) (
-      logged plan p [] (merged plan) positive is is.tasks refl
-      ∙ ap (outs plan) owns.0
-      ∙ sym (log_is plan p 1 items one)
+    logged plan p [] (merged plan) positive is is.tasks refl
+    ∙ ap (outs plan) owns.0
+    ∙ sym (log_is plan p 1 items one)
     )
     ∙ ap (λ (logs : List (List Outcome)). log_of plan (whole plan ∷ []) p 1 items ∷ logs) (logs_are plan (p + 1) rest (omega (arith, positive)) one is owns.1)
 
@@ -178,10 +178,10 @@ hosted plan n past (x ∷ xs) is tasks e =
       by_op o same (Adds key mac) rest =
           ap (λ (hs : List HostLine). plain_host_line n (length (lines_of past)) (keys_added (lines_of past)) (line_of x) (op.Add key (Some mac) nud.Permanent) ++ hs) (rest (n + 1))
           ∙ ap (λ (ps : List Placed). host_line.Neigh n x.at ps ∷ hosts plan (n + 1) (filter (λ y. is_adding y.op) xs)) (ap (λ (at : Placed). at ∷ []) (
-            ap (λ (m : ℕ). (let made : Placed = record { bucket = 0; place = m; reply = if list_any (λ other. is_key other key) (keys_added (lines_of past)) then reply.Exists else reply.Done } in made)) long
-            ∙ ap (λ (b : Bool). (let made : Placed = record { bucket = 0; place = length past; reply = if b then reply.Exists else reply.Done } in made)) (among_added key (lines_of past) ∙ ap (λ (ys : List Entered). is_added ys key) (entered_again past))
-            ∙ ap (λ (o : Op). (let made : Placed = record { bucket = 0; place = length past; reply = plain_reply (is_added past) o } in made)) (sym same)
-            ∙ sym (placed_is plan past xs x is e)
+          ap (λ (m : ℕ). (let made : Placed = record { bucket = 0; place = m; reply = if list_any (λ other. is_key other key) (keys_added (lines_of past)) then reply.Exists else reply.Done } in made)) long
+          ∙ ap (λ (b : Bool). (let made : Placed = record { bucket = 0; place = length past; reply = if b then reply.Exists else reply.Done } in made)) (among_added key (lines_of past) ∙ ap (λ (ys : List Entered). is_added ys key) (entered_again past))
+          ∙ ap (λ (o : Op). (let made : Placed = record { bucket = 0; place = length past; reply = plain_reply (is_added past) o } in made)) (sym same)
+          ∙ sym (placed_is plan past xs x is e)
           ))
       by_op o same (Sends key) rest = let none : n + 0 ≡ n = omega arith in ap (λ (m : ℕ). plain_host m (lines_of past ++ line_of x ∷ []) (lines_of xs)) none ∙ rest n
 

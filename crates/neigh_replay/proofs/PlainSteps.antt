@@ -76,7 +76,7 @@ unfolding plan_of
 early_merged script window buckets within =
     let early = early_items script.host script.senders script.items within.items in
     each_all IsEarly [] (control_ops 1 (control_items script.items) ++ senders_ops 1 (senders_from 1 script.senders script.items)) (tt {0})
-      (each_append IsEarly (control_ops 1 (control_items script.items)) (senders_ops 1 (senders_from 1 script.senders script.items)) (early_control 1 script.items early) (early_senders 1 1 script.senders script.items early))
+    (each_append IsEarly (control_ops 1 (control_items script.items)) (senders_ops 1 (senders_from 1 script.senders script.items)) (early_control 1 script.items early) (early_senders 1 1 script.senders script.items early))
 
 plain_step : (p : Params) (past : List Line) (at : ℕ) (o : Op) → PlainOp o → (gives_settable o ≡ true) × IsAtDue p past at o
 plain_step p past at o (Adds key mac) = (refl, tt {0})

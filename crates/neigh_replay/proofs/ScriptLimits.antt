@@ -14,9 +14,9 @@ rises from (item ∷ items) h = (h.0, rises (at_of item) items h.1)
 
 pub script_within : (script : Script) → limits.IsWithinLimits script → length script.items ≤ 131_072 → IsScriptWithinLimits script
 script_within script h few = record {
-    items = record { rises = rises 0 script.items h.order; few = subst (λ (n : ℕ). n ≤ 131_072) (sym (length-map script.items at_of)) few };
-    few = h.senders.1;
-  }
+  items = record { rises = rises 0 script.items h.order; few = subst (λ (n : ℕ). n ≤ 131_072) (sym (length-map script.items at_of)) few };
+  few = h.senders.1;
+}
 
 pub one_bucket : (script : Script) (window : ℕ) → (plan_of script window 1).buckets ≡ 1
 unfolding plan_of

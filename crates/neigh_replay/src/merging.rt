@@ -116,11 +116,7 @@ fn sender_lines(
 }
 
 /// Appends the operation's line, where the item has one.
-fn take_control(
-    lines: &mut Items<Line>,
-    place: usize,
-    item: &ControlItem,
-) -> Result<(), AllocError>
+fn take_control(lines: &mut Items<Line>, place: usize, item: &ControlItem) -> Result<(), AllocError>
     requires { place < 131072 }
     ensures { OnOk result (lines.new ≡ lines.old ++ lines_of (option_to_list (control_op (place + 1) item.now))) }
 {

@@ -28,10 +28,7 @@ fn take_control(items: &mut Items<ControlItem>, item: &ScriptItem) -> Result<(),
     }
 }
 
-fn control_of_script(
-    alloc: Global,
-    script: &[ScriptItem],
-) -> Result<Items<ControlItem>, AllocError>
+fn control_of_script(alloc: Global, script: &[ScriptItem]) -> Result<Items<ControlItem>, AllocError>
     ensures { IfOk result (λ items. items ≡ control_items script.now) }
 {
     let mut items = Items::new(alloc);

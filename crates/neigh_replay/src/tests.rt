@@ -332,7 +332,10 @@ fn payload_of_1500_and_1501_bytes(rt: HostRuntime) -> Result<(), Fail> {
         );
         assert_eq!(rt; status, expected, "{len} bytes");
         if expected == 5 {
-            assert_eq!(rt; err.bytes(), b"neigh: script refused: 7 at line 2\n".as_slice());
+            assert_eq!(rt;
+                err.bytes(),
+                b"neigh: script refused: 7 at line 2\n".as_slice()
+            );
         }
     }
     Ok(())

@@ -133,7 +133,14 @@ pub fn run_inline<I: Inputs, K: Sink, E: Sink>(
         (sink_call (K.taken out.old) (K.taken out.new) (K.faults out.old) (K.faults out.new))
         (sink_call (E.taken err.old) (E.taken err.new) (E.faults err.old) (E.faults err.new))) result }
 {
-    replay_status(alloc, settings.script.as_str(), settings.window, inputs, out, err)
+    replay_status(
+        alloc,
+        settings.script.as_str(),
+        settings.window,
+        inputs,
+        out,
+        err,
+    )
 }
 
 // Says that no memory was left before anything was read.
