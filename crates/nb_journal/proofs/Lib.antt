@@ -18,9 +18,13 @@ pub mod Bound
 pub mod Rows
 pub mod Queues
 pub mod Unique
+pub mod PacketCounts
 pub mod Fates
+pub mod FatesTotal
 pub mod GoesOn
 pub mod Takes
 pub mod Evaluates
+pub mod Changed
 pub mod Decides
 pub mod Decided
+pub mod Stepped

@@ -1,5 +1,5 @@
 -- What a journal comes to: the records that a key's cell publishes, the fate of each packet, and how many lines there can be (this project's own).
-use Rattle.std.specs.Prelude.{ℕ, ◌+◌, ◌-◌, ◌*◌, ◌/◌, Bool, false, ◌==◌, nat_le, nat_lt, if◌then◌else◌, List, [], ◌∷◌, ◌++◌, map, filter, length, Option, Some, None}
+use Rattle.std.specs.Prelude.{ℕ, ◌+◌, ◌-◌, ◌*◌, ◌/◌, Bool, true, false, ◌==◌, nat_le, nat_lt, if◌then◌else◌, List, [], ◌∷◌, ◌++◌, map, filter, length, Option, Some, None}
 use Rattle.std.specs.List.{flat_map, list_any}
 use Rattle.nb_base.specs.declared.mac.Mac.{Mac}
 use Rattle.nb_base.specs.declared.key.Key.{Key}
@@ -19,8 +19,8 @@ use Rattle.nud_machine.specs.declared.entry.Entry.{Entry}
 use Rattle.nud_machine.specs.State.{State, absent}
 use Rattle.nud_machine.specs.Record.{record_of, same_record}
 use Rattle.nud_machine.specs.Laws.{leaving}
-use Rattle.nb_journal.specs.Keys.{is_key, is_own}
-use Rattle.nb_journal.specs.Fold.{id_of, change, state_of, acts_of, known_keys}
+use Rattle.nb_journal.specs.Keys.{is_key, is_own, is_send}
+use Rattle.nb_journal.specs.Fold.{id_of, change, state_of, acts_of, known_keys, is_transmit}
 use Rattle.nb_journal.specs.Lawful.{fold_lines}
 
 -- ---- published records
@@ -116,6 +116,32 @@ sends_to journal key = flat_map (λ line. sent_by line key line.op) journal
 -- those of a key that have gone out or been dropped, in the order in which they did
 unfoldable pub ended_of : Params → List Line → Key → List OpId
 ended_of p journal key = fold_lines (λ ids past line. ids ++ ended (acts_of p past line key)) [] [] journal
+
+-- ---- how many packets went out, were dropped, and wait
+
+-- an act by which a packet is dropped
+abbrev pub is_drop : Act → Bool
+is_drop (act.Drop id cause) = true
+is_drop _ = false
+
+-- all acts of the lines behind the past, in order
+abbrev pub acts_behind : Params → List Line → List Line → List Act
+acts_behind p past [] = []
+acts_behind p past (line ∷ lines) = acts_at p past line ++ acts_behind p (past ++ line ∷ []) lines
+
+-- the packets that wait behind a journal, by rank of their keys
+abbrev pub waiting_behind : Params → List Line → List OpId
+waiting_behind p journal = flat_map (λ key. (state_of p journal key).waiting) (known_keys journal)
+
+-- the lines that send
+abbrev pub send_lines : List Line → List Line
+send_lines journal = filter (λ line. is_send line.op) journal
+
+-- how many packets went out or were dropped at lines, and wait behind them
+abbrev pub fates_total : Params → List Line → ℕ
+fates_total p journal =
+    length (filter is_transmit (acts_behind p [] journal)) + length (filter is_drop (acts_behind p [] journal))
+    + length (waiting_behind p journal)
 
 -- ---- the line bound
 

@@ -36,12 +36,16 @@ pub record IsKept (p : Params) (k : Kept) : Type 0 where
   pub moments : IsInRun k.entry
   pub capacity : k.waiting.capacity ≡ p.unres_qlen
 
--- a state that an operation gives an entry by hand is one of the four that may be given
+-- an operation gives an entry by hand only one of the four states that may be given
 abbrev pub gives_settable : Op → Bool
 gives_settable (op.Add key mac nud) = is_settable nud
 gives_settable (op.Change key mac nud) = is_settable nud
 gives_settable (op.Replace key mac nud) = is_settable nud
 gives_settable _ = true
+
+-- so do the operations of all of these lines
+abbrev pub give_settable : List Line → Bool
+give_settable lines = list_all (λ line. gives_settable line.op) lines
 
 -- a line at a moment of a run, which gives only states that may be given by hand
 abbrev pub is_line_of_run : Line → Bool
@@ -66,6 +70,11 @@ abbrev pub concerns : Line → Key → Option Key → Bool
 concerns line key None = true
 concerns line key (Some named) = is_key named key && is_none line.full
 
+-- the line sends to the key and found the table full
+abbrev pub is_turned_away : Line → Key → Op → Bool
+is_turned_away line key (op.Send named) = is_key named key && is_some line.full
+is_turned_away line key _ = false
+
 -- a timer's line stands at its key's due
 abbrev pub IsAtDue : Params → List Line → ℕ → Op → Type 0
 IsAtDue p past at (op.Timer key) = due_of p past key ≡ Some at
@@ -74,6 +83,14 @@ IsAtDue p past at _ = Unit {0}
 -- a line that the machine can step over
 abbrev pub IsStep : Params → List Line → Line → Type 0
 IsStep p past line = IsTrue (is_line_of_run line) × IsAtDue p past line.at line.op
+
+-- a journal of fewer than 2^32 lines
+abbrev pub IsShort : List Line → Type 0
+IsShort journal = length journal < 2 ^ 32
+
+-- a journal over which the machine can step, line by line
+abbrev pub IsStepped : Params → List Line → Type 0
+IsStepped p journal = EachLine (IsStep p) journal
 
 -- the journals that can be evaluated: the machine can step over each line, and they are fewer than 2^32
 pub record IsEvaluable (p : Params) (lines : List Line) : Type 0 where

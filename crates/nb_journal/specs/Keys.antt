@@ -49,6 +49,11 @@ abbrev pub is_timer : Op → Bool
 is_timer (op.Timer key) = true
 is_timer _ = false
 
+-- an operation that sends a packet
+abbrev pub is_send : Op → Bool
+is_send (op.Send key) = true
+is_send _ = false
+
 -- the key's place among the keys, or their number where it isn't there
 abbrev pub place_among : List Key → Key → ℕ
 place_among [] key = 0

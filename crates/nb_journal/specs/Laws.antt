@@ -10,10 +10,12 @@ use Rattle.nb_base.specs.Params.{InRange}
 use Rattle.nud_machine.specs.declared.entry.Entry.{Entry}
 use Rattle.nud_machine.specs.State.{absent_entry}
 use Rattle.nud_machine.specs.Record.{record_of}
+use Rattle.nud_machine.specs.Asked.{greatest}
 use Rattle.nb_journal.specs.Keys.{is_key, is_own}
 use Rattle.nb_journal.specs.Fold.{state_of, known_keys, rank_of}
 use Rattle.nb_journal.specs.Lawful.{last_moment, due_of, NothingDue, IsNextDue, IsSweepMoment, IsCrowded, sweep_line, before_sweep, collects, full_of, IsLawful, IsBrokenOff}
-use Rattle.nb_journal.specs.Accounts.{Fate, fates_of, times_sent, ends_with, with_record, published, potential, sends_to, ended_of, timer_line, own_lines, line_bound}
+use Rattle.nb_journal.specs.Evaluated.{give_settable, IsStepped}
+use Rattle.nb_journal.specs.Accounts.{Fate, fates_of, times_sent, ends_with, with_record, published, potential, sends_to, ended_of, send_lines, fates_total, timer_line, own_lines, line_bound}
 
 -- the keys that a journal knows are the first of those that a longer one knows
 abbrev pub KeysGrow : Type 0
@@ -148,6 +150,10 @@ PacketsLeaveInOrder = (p : Params) (journal : List Line) (clock : ℕ) (key : Ke
 abbrev pub EachSendHasOneFate : Type 0
 EachSendHasOneFate = (p : Params) (journal : List Line) (clock : ℕ) (id : OpId) → IsLawful p journal clock → times_sent journal id ≡ 1 → (fate : Fate) × (fates_of p journal id ≡ fate ∷ [])
 
+-- in a lawful journal the packets that went out, those that were dropped and those that wait are together as many as the lines that send
+abbrev pub FatesAddUp : Type 0
+FatesAddUp = (p : Params) (journal : List Line) (clock : ℕ) → IsLawful p journal clock → fates_total p journal ≡ length (send_lines journal)
+
 -- two journals that are lawful at one clock and have the same operations' lines are one
 abbrev pub LawfulAreOne : Type 0
 LawfulAreOne =
@@ -157,3 +163,12 @@ LawfulAreOne =
     → IsLawful p other clock
     → own_lines journal ≡ own_lines other
     → journal ≡ other
+
+-- the machine can step over a lawful journal at a moment of a run, whose operations give only states that may be given by hand
+abbrev pub LawfulJournalsAreStepped : Type 0
+LawfulJournalsAreStepped =
+    (p : Params) (journal : List Line) (clock : ℕ)
+    → IsLawful p journal clock
+    → clock ≤ greatest
+    → give_settable (own_lines journal) ≡ true
+    → IsStepped p journal

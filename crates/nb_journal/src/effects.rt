@@ -22,7 +22,8 @@ pub enum Effect {
     Brings(Event),
 }
 
-fn id_of(line: &Line) -> OpId
+/// The line's number, or 0 where it has none.
+pub fn id_of(line: &Line) -> OpId
     ensures { result ≡ spec.id_of line.now }
 {
     line.id.unwrap_or(OpId(0))

@@ -1,5 +1,7 @@
 //! A key's entry with the packets that wait for it, from line to line.
-ghost use Rattle.std.specs.Prelude.{◌≡◌, ◌≤◌, IfOk, IsTrue, if◌then◌else◌};
+ghost use Rattle.std.specs.Prelude.{◌≡◌, ◌≤◌, [], ◌∷◌, IfOk, IsTrue, if◌then◌else◌};
+ghost use Rattle.nud_machine.specs.declared.act.Act.TheVariants.{Drop};
+ghost use Rattle.nud_machine.specs.declared.act.Cause.TheVariants.{TableFull};
 ghost use Rattle.nb_base.specs.Params.{InRange};
 ghost use Rattle.nud_machine.specs.Asked.{greatest, NamesSettable, FiresAtDue};
 ghost use Rattle.nud_machine.specs.State as machine;
@@ -9,11 +11,11 @@ ghost use Rattle.nb_journal.specs.Keys as keys;
 ghost use Rattle.nb_journal.specs.Evaluated as spec;
 ghost use Rattle.nb_journal.specs.Evaluated.{IsKept, state_in, is_line_of_run, IsTimersDue, IsTimersMoment};
 
-use crate::effects::{Effect, effect_of};
+use crate::effects::{Effect, effect_of, id_of};
 use crate::naming::{is_key, key_of};
-use nb_base::{Key, Line, Moment, Params};
+use nb_base::{Key, Line, Moment, Op, Params};
 use nb_queues::WaitQueue;
-use nud_machine::{Acts, Entry, Event, step};
+use nud_machine::{Act, Acts, Cause, Entry, Event, step};
 use std::alloc::{AllocError, Global};
 
 /// A key's entry, and the packets that wait for it.
@@ -33,9 +35,29 @@ fn concerns(line: &Line, key: &Key) -> bool
     }
 }
 
+/// Whether the line sends to the key and found the table full.
+fn is_turned_away(line: &Line, key: &Key) -> bool
+    ensures { result ≡ spec.is_turned_away line.now key.now line.now.op }
+{
+    match line.op {
+        Op::Send { key: named } => is_key(&named, key) && line.full.is_some(),
+        _ => false,
+    }
+}
+
+/// The acts of a line that does nothing to the key's entry: a packet that found the table full is dropped.
+fn turn_away(line: &Line, key: &Key, acts: &mut Acts)
+    ensures { acts.new ≡ (if spec.is_turned_away line.now key.now line.now.op then Drop (fold.id_of line.now) TableFull ∷ [] else []) }
+{
+    acts.clear();
+    if is_turned_away(line, key) {
+        acts.push(Act::Drop(id_of(line), Cause::TableFull));
+    }
+}
+
 impl Kept {
     /// No entry, and no packet.
-    pub(crate) fn absent(alloc: Global, params: &Params) -> Result<Kept, AllocError>
+    pub fn absent(alloc: Global, params: &Params) -> Result<Kept, AllocError>
         requires { InRange params.now }
         ensures kept { IfOk result (IsKept params.now) }
         ensures absent { IfOk result (λ kept. state_in kept ≡ machine.absent) }
@@ -47,7 +69,7 @@ impl Kept {
     }
 
     /// An event meets the entry, which is made first where it is absent.
-    pub(crate) fn meet(&mut self, params: &Params, at: Moment, event: &Event, acts: &mut Acts)
+    pub fn meet(&mut self, params: &Params, at: Moment, event: &Event, acts: &mut Acts)
         requires params { InRange params.now }
         requires now { at ≤ greatest }
         requires kept { IsKept params.now self.old }
@@ -69,25 +91,27 @@ impl Kept {
         requires line { IsTrue (is_line_of_run line.now) }
         requires due { IsTimersMoment line.now.at (state_in self.old) line.now.op }
         ensures kept { IsKept params.now self.new }
-        ensures state { state_in self.new ≡ (fold.meet params.now line.now (state_in self.old) (fold.effect params.now line.now (state_in self.old) line.now.op)).state }
+        ensures met { record { state = state_in self.new; acts = acts.new } ≡ fold.meet params.now line.now (state_in self.old) (fold.effect params.now line.now (state_in self.old) line.now.op) }
     {
         match effect_of(params, line, self) {
-            Effect::Passes | Effect::Refuses(_) => {}
+            Effect::Passes | Effect::Refuses(_) => acts.clear(),
             Effect::Brings(event) => self.meet(params, line.at, &event, acts),
         }
     }
 
-    /// What a line does to the key's entry.
-    pub(crate) fn go_on(&mut self, params: &Params, line: &Line, key: &Key, acts: &mut Acts)
+    /// What a line does to the key's entry, and the acts on the way. Takes no memory.
+    pub fn go_on(&mut self, params: &Params, line: &Line, key: &Key, acts: &mut Acts)
         requires params { InRange params.now }
         requires kept { IsKept params.now self.old }
         requires line { IsTrue (is_line_of_run line.now) }
         requires due { IsTimersDue key.now line.now.at (state_in self.old) line.now.op }
         ensures kept { IsKept params.now self.new }
-        ensures state { state_in self.new ≡ (fold.change params.now line.now key.now (state_in self.old)).state }
+        ensures changed { record { state = state_in self.new; acts = acts.new } ≡ fold.change params.now line.now key.now (state_in self.old) }
     {
         if concerns(line, key) {
             self.take_effect(params, line, acts);
+        } else {
+            turn_away(line, key, acts);
         }
     }
 }

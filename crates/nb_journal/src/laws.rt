@@ -1,5 +1,5 @@
 //! The laws of journals. Each function does nothing: its contract is the law.
-ghost use Rattle.nb_journal.specs.Laws.{KeysGrow, RanksStay, DuesLieAhead, SweepsCutInTwo, EmptyIsLawful, LawfulEarlier, GoesOnByOperation, GoesOnByTimer, GoesOnBySweep, GoesOnInTime, CellsPublishStates, TimersLower, PotentialsAreSmall, LawfulInBound, BrokenOffInBound, PacketsLeaveInOrder, EachSendHasOneFate, LawfulAreOne};
+ghost use Rattle.nb_journal.specs.Laws.{KeysGrow, RanksStay, DuesLieAhead, SweepsCutInTwo, EmptyIsLawful, LawfulEarlier, GoesOnByOperation, GoesOnByTimer, GoesOnBySweep, GoesOnInTime, CellsPublishStates, TimersLower, PotentialsAreSmall, LawfulInBound, BrokenOffInBound, PacketsLeaveInOrder, EachSendHasOneFate, FatesAddUp, LawfulAreOne, LawfulJournalsAreStepped};
 
 /// The keys that a journal knows are the first of those that a longer one knows, and each keeps its rank.
 pub fn known_keys_only_grow()
@@ -64,7 +64,18 @@ pub fn each_send_has_one_fate()
     ensures { EachSendHasOneFate }
 {}
 
+/// In a lawful journal the packets that went out, those that were dropped and those that wait are together as many as the lines that send.
+pub fn fates_add_up()
+    ensures { FatesAddUp }
+{}
+
 /// Two journals that are lawful at one clock and have the same operations' lines are one.
 pub fn lawful_journals_are_one()
     ensures { LawfulAreOne }
+{}
+
+/// The machine can step over each line of a lawful journal whose clock is a moment of a run and whose operations give only states
+/// that may be given by hand: every moment is one of a run, and each timer's line stands at its key's due.
+pub fn lawful_journals_are_stepped()
+    ensures { LawfulJournalsAreStepped }
 {}

@@ -17,5 +17,8 @@ mod tests;
 mod timing;
 
 pub use deciding::is_lawful;
+pub use effects::{Effect, effect_of, id_of, is_collectable, is_loose};
 pub use evaluate::{is_evaluable, is_line_of_run, reply_at, state_at};
 pub use kept::Kept;
+pub use naming::{is_collect, is_key, is_own, is_timer, key_of, made_known};
+pub use replies::reply_after;

@@ -69,7 +69,7 @@ fn reply_to_send(acts: &[Act]) -> Reply
 }
 
 /// A send is answered by what became of its packet, every other event by `Done`.
-fn reply_after(op: &Op, acts: &[Act]) -> Reply
+pub fn reply_after(op: &Op, acts: &[Act]) -> Reply
     ensures { result ≡ spec.reply_after op.now acts.now }
 {
     match *op {

@@ -42,13 +42,15 @@ impl Acts {
         self.acts.as_slice()
     }
 
-    pub(crate) fn clear(&mut self)
+    /// Takes all acts out. Takes no memory.
+    pub fn clear(&mut self)
         ensures { self.new ≡ [] }
     {
         self.acts.clear();
     }
 
-    pub(crate) fn push(&mut self, act: Act)
+    /// Puts an act behind the others, of which there are fewer than 66. Takes no memory.
+    pub fn push(&mut self, act: Act)
         requires { length self.old < 66 }
         ensures { self.new ≡ self.old ++ act ∷ [] }
     {

@@ -1,5 +1,5 @@
 use Rattle.std.proofs.Common.{take, sym, ap, ◌∙◌, arith}
-use Rattle.nud_machine.specs.State.{State}
+use Rattle.nud_machine.specs.State.{State, Stepped}
 use Rattle.nb_base.specs.declared.line.Line.{Line}
 use Rattle.std.specs.Prelude.{List}
 use Rattle.nb_journal.specs.Fold.{change, state_of}
@@ -26,7 +26,7 @@ go_on-requires-clause-due c =
 pub loop-line-preserved : goal.loop-line-preserved
 loop-line-preserved c = record {
   kept = c.go_on.ensures.kept;
-  state = c.go_on.ensures.state
+  state = ap (λ (x : Stepped). x.state) c.go_on.ensures.changed
       ∙ ap (λ (s : State). (change c.args.params.now c.line-item.result c.args.key.now s).state) c.loop-line.invariant.state
       ∙ sym (state_of-snoc c.args.params.now (take c.loop-line.line-index c.args.lines.now) c.line-item.result c.args.key.now)
       ∙ ap (λ (xs : List Line). state_of c.args.params.now xs c.args.key.now) (sym (taken c.args.lines.now c.loop-line.line-index c.line-item.result (omega arith) c.line-item.is));
