@@ -1,0 +1,9 @@
+pub mod Equal
+pub mod Places
+pub mod PartWay
+pub mod Named
+pub mod Replied
+pub mod Counted
+pub mod Whole
+pub mod Shown
+pub mod Ranks

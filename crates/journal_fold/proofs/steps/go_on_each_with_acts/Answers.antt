@@ -1,0 +1,64 @@
+use Rattle.std.proofs.Common.{◌≡◌, ◌+◌, List, [], ◌∷◌, ◌++◌, set, get_or, slice_get, OnOk, append-nil, sym, ap, subst, take, ◌∙◌}
+use Rattle.std.proofs.lemmas.List.{flat_map_more, take_more, take_all}
+use Rattle.std.specs.List.{flat_map}
+use Rattle.std.proofs.lemmas.Option.{slice_get-get_or}
+use Rattle.nb_base.specs.declared.key.Key.TheVariants.{V4}
+use Rattle.nb_base.specs.declared.key.Key.{Key}
+use Rattle.nud_machine.specs.declared.act.Act.{Act}
+use Rattle.nud_machine.specs.State.{State}
+use Rattle.nb_journal.specs.Fold.{state_of, acts_of}
+use Rattle.journal_fold.proofs.Shown.{kept_shown, acts_shown}
+use Rattle.journal_fold.proofs.PartWay.{next_at, next_set, all_done, told_more}
+use Rattle.journal_fold.proofs.steps.go_on_each_with_acts.Goals as goal
+
+pub go_on_at-requires-clause-state : goal.go_on_at-requires-clause-state
+go_on_at-requires-clause-state c =
+    let p = c.args.params.now in
+    let keys = c.args.keys.now in
+    let rank = c.loop-rank.rank in
+    let key = get_or keys rank (V4 0) in
+    ap (λ (x : List State). slice_get x rank) c.loop-rank.invariant.states
+    ∙ next_at (state_of p (c.args.past.now ++ c.args.line.now ∷ [])) (state_of p c.args.past.now) rank keys key (slice_get-get_or keys rank (V4 0) c.loop-rank-test.true)
+
+pub loop-rank-preserved : goal.loop-rank-preserved
+loop-rank-preserved c =
+    let p = c.args.params.now in
+    let keys = c.args.keys.now in
+    let rank = c.loop-rank.rank in
+    let key = get_or keys rank (V4 0) in
+    let behind = state_of p (c.args.past.now ++ c.args.line.now ∷ []) in
+    record {
+      states = c.go_on_at.ensures.states
+          ∙ ap (λ (x : List State). set x rank (behind key)) c.loop-rank.invariant.states
+          ∙ next_set behind (state_of p c.args.past.now) rank keys key (slice_get-get_or keys rank (V4 0) c.loop-rank-test.true);
+      each = c.go_on_at.ensures.each;
+      present = c.go_on_at.ensures.present;
+      acts = told_more c.loop-rank.told c.tell-told.result (c.args.acts.now.items ++ flat_map (acts_of p c.args.past.now c.args.line.now) (take rank keys)) c.loop-rank.acts.items c.go_on_at.new.acts c.tell-told.new.acts.items
+          (c.args.acts.now.items ++ flat_map (acts_of p c.args.past.now c.args.line.now) (take (rank + 1) keys))
+          c.tell-told.ensures.before c.tell-told.ensures.acts c.loop-rank.invariant.acts
+          (ap (λ (acts : List Act). (c.args.acts.now.items ++ flat_map (acts_of p c.args.past.now c.args.line.now) (take rank keys)) ++ acts) c.go_on_at.ensures.acts
+          ∙ flat_map_more (acts_of p c.args.past.now c.args.line.now) c.args.acts.now.items (take rank keys) key
+          ∙ ap (λ (ks : List Key). c.args.acts.now.items ++ flat_map (acts_of p c.args.past.now c.args.line.now) ks) (sym (take_more keys rank (V4 0) c.loop-rank-test.true)));
+    }
+
+pub returns-clause-kept : goal.returns-clause-kept
+returns-clause-kept c =
+    let p = c.args.params.now in
+    record {
+      states = c.loop-rank.invariant.states
+          ∙ all_done (state_of p (c.args.past.now ++ c.args.line.now ∷ [])) (state_of p c.args.past.now) c.loop-rank.rank c.args.keys.now c.loop-rank-test.false;
+      each = c.loop-rank.invariant.each;
+    }
+
+pub returns-clause-acts : goal.returns-clause-acts
+returns-clause-acts c =
+    let keys = c.args.keys.now in
+    subst (λ (acts : List Act). OnOk c.loop-rank.told (c.loop-rank.acts.items ≡ acts))
+    (ap (λ (ks : List Key). c.args.acts.now.items ++ flat_map (acts_of c.args.params.now c.args.past.now c.args.line.now) ks) (take_all c.loop-rank.rank keys c.loop-rank-test.false ∙ c.requires.keys))
+    c.loop-rank.invariant.acts
+
+pub returns-in-Show-clause-kept : goal.returns-in-Show-clause-kept
+returns-in-Show-clause-kept c = kept_shown c.args.params.now c.args.past.now c.args.line.now c.args.keys.now c.args.kept.now.items c.in-Show.is c.requires.kept
+
+pub returns-in-Show-clause-acts : goal.returns-in-Show-clause-acts
+returns-in-Show-clause-acts c = rw (acts_shown c.args.params.now c.args.past.now c.args.line.now c.in-Show.is) (sym (append-nil c.args.acts.now.items))

@@ -1,0 +1,4 @@
+pub mod Taken
+pub mod Keeps
+pub mod Kept
+pub mod Verdicts

@@ -1,0 +1,18 @@
+//! How many entries are of a kind.
+ghost use Rattle.std.specs.Prelude.{◌≡◌, filter, length};
+ghost use Rattle.journal_fold.specs.Kept as kept_in;
+
+use nb_journal::{Kept, is_loose};
+
+/// How many present entries are neither PERMANENT nor NOARP.
+pub fn count_loose(kept: &[Kept]) -> usize
+    ensures { result ≡ length (filter kept_in.is_loose kept.now) }
+{
+    let mut count = 0;
+    for one in kept {
+        if is_loose(one) {
+            count += 1;
+        }
+    }
+    count
+}
