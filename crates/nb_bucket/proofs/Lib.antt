@@ -1,0 +1,11 @@
+pub mod NextSweep
+pub mod Best
+pub mod NextTimer
+pub mod Makes
+pub mod Keeping
+pub mod Along
+pub mod Collects
+pub mod Entered
+pub mod PartTaken
+pub mod Enters
+pub mod Calls
