@@ -2,7 +2,9 @@
 use Rattle.std.proofs.Common.{ℕ, ◌+◌, Bool, true, false, if◌then◌else◌, List, [], ◌∷◌, ◌++◌, length, map, refl, sym, ◌∙◌, ap, ◌≤◌, arith}
 use Rattle.std.specs.Prelude.{codes, decimal}
 use Rattle.std.specs.List.{AllByRecursion}
+use Rattle.nb_base.specs.declared.mac.Mac.{Mac}
 use Rattle.nb_base.specs.declared.key.Key.{Key}
+use Rattle.nb_base.specs.declared.key.Key.TheVariants.{V4, V6}
 use Rattle.nb_base.specs.declared.host.Host.{Host}
 use Rattle.nb_base.specs.declared.params.Params.{Params}
 use Rattle.nb_base.specs.declared.op.Op.{Op}
@@ -17,16 +19,15 @@ use Rattle.nb_base.specs.declared.host_line.Mark.{Mark}
 use Rattle.nud_machine.specs.declared.act.Act.{Act}
 use Rattle.nud_machine.specs.declared.act.Act.TheVariants as act
 use Rattle.nud_machine.specs.declared.entry.Entry.{Entry}
-use Rattle.nb_journal.specs.Fold.{state_of, known_keys, reply_of}
-use Rattle.nb_journal.specs.Accounts.{acts_at}
+use Rattle.nb_journal.specs.Fold.{state_of, acts_of, known_keys, reply_of}
 use Rattle.text_codes.specs.Lines.{Words, IsClean, IsCleanRow, rows_of}
 use Rattle.text_codes.proofs.Each.{Each-append}
 use Rattle.text_codes.proofs.Again.{rows_again}
 use Rattle.neigh_run.specs.declared.run.Run.{Run}
 use Rattle.neigh_run.specs.Spelling.{op_words, reply_part}
-use Rattle.neigh_run.specs.Frames.{sent_frame}
+use Rattle.neigh_run.specs.Frames.{sent_frame, everyone, request_frame}
 use Rattle.neigh_run.specs.Entries.{entry_words, entry_if_present, entries_after, proxy_words}
-use Rattle.neigh_run.specs.Report.{head_words, act_lines, lines_below, line_words, journal_lines, bucket_lines, host_line_words, log_lines, sender_lines, mark_words, fates_words, table, proxies, counted, report, report_text}
+use Rattle.neigh_run.specs.Report.{head_words, solicit_lines, act_lines, key_lines, lines_below, line_words, journal_lines, bucket_lines, host_line_words, log_lines, sender_lines, mark_words, fates_words, table, proxies, counted, report, report_text}
 use Rattle.neigh_run.specs.Laws.{ReportsGiveTheirLinesBack, TextsTellReports}
 use Rattle.neigh_run.proofs.CleanWords.{all-flat_map, all-map, clean-decimal, clean-hex, clean-key, clean-name}
 use Rattle.neigh_run.proofs.CleanSpelling.{AreClean, clean-mode, clean-host, clean-op, clean-id, clean-reply_part, clean-cause, clean-entry, clean-host_line, clean-outcome, clean-start}
@@ -37,12 +38,19 @@ AreRows rows = AllByRecursion IsCleanRow rows
 
 -- ---- journals
 
-act-rows : (plan : Plan) (a : Act) → AreRows (act_lines plan a)
-act-rows plan (act.Transmit id mac) = ((omega arith, (refl, (refl, (refl, (clean-decimal id.0, (clean-hex (sent_frame plan id mac), tt)))))), tt)
-act-rows plan (act.Wait id) = ((omega arith, (refl, (refl, (refl, (clean-decimal id.0, tt))))), tt)
-act-rows plan (act.Drop id why) = ((omega arith, (refl, (refl, (refl, (clean-decimal id.0, (clean-cause why, tt)))))), tt)
-act-rows plan act.SolicitGroup = tt
-act-rows plan (act.SolicitUnicast mac) = tt
+solicit-rows : (plan : Plan) (key : Key) (mac : Mac) → AreRows (solicit_lines plan key mac)
+solicit-rows plan (V4 address) mac = ((omega arith, (refl, (refl, (refl, (clean-hex (request_frame plan.host mac address), tt))))), tt)
+solicit-rows plan (V6 address) mac = tt
+
+act-rows : (plan : Plan) (key : Key) (a : Act) → AreRows (act_lines plan key a)
+act-rows plan key (act.Transmit id mac) = ((omega arith, (refl, (refl, (refl, (clean-decimal id.0, (clean-hex (sent_frame plan id mac), tt)))))), tt)
+act-rows plan key (act.Wait id) = ((omega arith, (refl, (refl, (refl, (clean-decimal id.0, tt))))), tt)
+act-rows plan key (act.Drop id why) = ((omega arith, (refl, (refl, (refl, (clean-decimal id.0, (clean-cause why, tt)))))), tt)
+act-rows plan key act.SolicitGroup = solicit-rows plan key everyone
+act-rows plan key (act.SolicitUnicast mac) = solicit-rows plan key mac
+
+key-rows : (plan : Plan) (past : List Line) (line : Line) (key : Key) → AreRows (key_lines plan past line key)
+key-rows plan past line key = all-flat_map IsCleanRow (act_lines plan key) (act-rows plan key) (acts_of plan.params past line key)
 
 present-words : (h : Host) (key : Key) (e : Entry) → IsClean h.dev → AreRows (entry_if_present h key e)
 present-words h key e dev = by_test e.present where
@@ -59,7 +67,7 @@ shown-rows (words ∷ rows) h = ((omega arith, (refl, (refl, (refl, h.0.1)))), s
 
 below-rows : (plan : Plan) (past : List Line) (line : Line) (o : Op) → IsClean plan.host.dev → AreRows (lines_below plan past line o)
 below-rows plan past line op.Show dev = shown-rows (entries_after plan.host plan.params past) (entry-rows plan.host plan.params past dev)
-below-rows plan past line _ dev = all-flat_map IsCleanRow (act_lines plan) (act-rows plan) (acts_at plan.params past line)
+below-rows plan past line _ dev = all-flat_map IsCleanRow (key_lines plan past line) (key-rows plan past line) (known_keys (past ++ line ∷ []))
 
 line-words : (plan : Plan) (past : List Line) (line : Line) → IsCleanRow (line_words plan past line)
 line-words plan past line = (

@@ -4,4 +4,7 @@ pub mod CleanWords
 pub mod CleanSpelling
 pub mod CleanRows
 pub mod SetIn
+pub mod MergedSends
+pub mod InlineFates
+pub mod KeysNamed
 pub mod Rows

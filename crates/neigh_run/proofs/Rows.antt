@@ -1,17 +1,20 @@
--- The definitions at samples: the merged order, the ids, and the packets that ids name.
+-- The definitions at samples: the merged order, the ids, the packets that ids name, frames, and proxies.
 use Rattle.std.proofs.Common.{◌≡◌, ℕ, ◌+◌, ◌-◌, ◌*◌, ◌/◌, ◌%◌, ◌<◌, ◌≤◌, true, false, List, [], ◌∷◌, map, Some, None, refl, arith}
 use Rattle.std.specs.Prelude.{codes, slice_get, option_and_then}
 use Rattle.nb_base.specs.declared.key.Key.{Key}
-use Rattle.nb_base.specs.declared.key.Key.TheVariants.{V4}
+use Rattle.nb_base.specs.declared.key.Key.TheVariants.{V4, V6}
 use Rattle.nb_base.specs.declared.op.Op.TheVariants as op
 use Rattle.nb_base.specs.declared.plan.Plan.{Plan}
 use Rattle.nb_base.specs.declared.plan.SendItem.{SendItem}
 use Rattle.nb_base.specs.declared.plan.ControlItem.TheVariants as control
 use Rattle.nb_base.specs.Params.{default_params}
+use Rattle.nud_machine.specs.declared.act.Act.TheVariants as act
 use Rattle.nb_journal.specs.Keys.{is_key}
 use Rattle.neigh_run.specs.Merged.{Entered, id_for, merged}
+use Rattle.neigh_run.specs.Plan.{keys_named, is_replayed}
 use Rattle.neigh_run.specs.Frames.{packet_of, sent_frame}
 use Rattle.neigh_run.specs.Entries.{proxies_with}
+use Rattle.neigh_run.specs.Report.{act_lines}
 
 -- the id of a packet names it: of sender p the item of number n
 packet-named : (plan : Plan) (p n : ℕ) → p < 32 → 1 ≤ n → packet_of plan (id_for p n) ≡ option_and_then (λ items. slice_get items (n - 1)) (slice_get plan.senders (p - 1))
@@ -47,9 +50,47 @@ numbers operations = map (λ (x : Entered). x.id.0) operations
 merged-row : numbers (merged sample) ≡ 34 ∷ 32 ∷ 33 ∷ 66 ∷ 96 ∷ 65 ∷ []
 merged-row = refl
 
+-- a proxy line isn't replayed; without it the sample's plan is, and names two keys
+proxied-row : is_replayed sample ≡ false
+unfolding is_replayed
+proxied-row = refl
+
+replayed-row : is_replayed (record sample { control = control.Neigh 5 op.Show ∷ control.Neigh 6 (op.Del two) ∷ [] }) ≡ true
+unfolding is_replayed keys_named is_key
+replayed-row = refl
+
+-- nor is an IPv6 key, or another interval of sweeps
+six-row : is_replayed (record sample { control = []; senders = (send 5 (V6 1) ∷ []) ∷ [] }) ≡ false
+unfolding is_replayed
+six-row = refl
+
+interval-row : is_replayed (record sample { control = []; params = record default_params { gc_interval = 20_000 } }) ≡ false
+unfolding is_replayed
+interval-row = refl
+
+named-row : keys_named (merged sample) ≡ two ∷ one ∷ []
+unfolding keys_named is_key
+named-row = refl
+
 -- a frame goes from the host to the address, has the type of IPv4 and the payload as it is
 frame-row : sent_frame sample (record { 0 = 65 }) (record { 0 = 2 ∷ 0 ∷ 0 ∷ 0 ∷ 0 ∷ 9 ∷ [] }) ≡ 2 ∷ 0 ∷ 0 ∷ 0 ∷ 0 ∷ 9 ∷ 2 ∷ 0 ∷ 0 ∷ 0 ∷ 0 ∷ 2 ∷ 8 ∷ 0 ∷ 7 ∷ []
 frame-row = refl
+
+-- the host 02:00:00:00:00:02 with the address 10.0.0.2
+abbrev asking : Plan
+asking = record sample { host = record { dev = codes "eth0"; mac = record { 0 = 2 ∷ 0 ∷ 0 ∷ 0 ∷ 0 ∷ 2 ∷ [] }; ip4 = Some 0x0a000002; ip6 = None } }
+
+-- it asks everyone for 10.0.0.1
+group-row : act_lines asking one act.SolicitGroup ≡ ([] ∷ [] ∷ codes "solicit" ∷ codes "ffffffffffff020000000002080600010800060400010200000000020a0000020000000000000a000001" ∷ []) ∷ []
+group-row = refl
+
+-- and the host at 00:11:22:33:44:55 alone
+unicast-row : act_lines asking one (act.SolicitUnicast (record { 0 = 0 ∷ 0x11 ∷ 0x22 ∷ 0x33 ∷ 0x44 ∷ 0x55 ∷ [] })) ≡ ([] ∷ [] ∷ codes "solicit" ∷ codes "001122334455020000000002080600010800060400010200000000020a0000020000000000000a000001" ∷ []) ∷ []
+unicast-row = refl
+
+-- no line for an IPv6 address
+unspelled-row : act_lines asking (V6 1) act.SolicitGroup ≡ []
+unspelled-row = refl
 
 -- a proxy entry that is added again keeps its place, and one that is added behind its deletion goes last
 proxies-again : proxies_with (one ∷ two ∷ []) (control.Proxy 9 one true) ≡ one ∷ two ∷ []

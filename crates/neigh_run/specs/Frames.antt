@@ -1,16 +1,27 @@
--- Frames of packets.
-use Rattle.std.specs.Prelude.{ℕ, ◌-◌, ◌/◌, ◌%◌, List, [], ◌++◌, Option, slice_get, option_and_then}
+-- Frames of packets and of solicitations.
+use Rattle.std.specs.Prelude.{ℕ, ◌-◌, ◌/◌, ◌%◌, List, [], ◌++◌, replicate, Option, unwrap_or, slice_get, option_and_then}
 use Rattle.std.specs.Option.{option_map_or}
 use Rattle.nb_base.specs.declared.mac.Mac.{Mac}
+use Rattle.nb_base.specs.declared.key.Key.{Key}
+use Rattle.nb_base.specs.declared.key.Key.TheVariants.{V4, V6}
 use Rattle.nb_base.specs.declared.host.Host.{Host}
 use Rattle.nb_base.specs.declared.time.OpId.{OpId}
 use Rattle.nb_base.specs.declared.plan.Plan.{Plan}
 use Rattle.nb_base.specs.declared.plan.SendItem.{SendItem}
-use Rattle.nud_machine.specs.Record.{ether_type}
+use Rattle.link_codec.specs.declared.arp.Arp.{Arp}
+use Rattle.link_codec.specs.Ethernet.{eth_bytes}
+use Rattle.link_codec.specs.Arp.{arp_bytes}
 
--- destination, source, the type of the key's family (RFC 894, RFC 2464), and the payload without padding
+-- ---- packets
+
+-- the Ethernet type of the key's family (RFC 894, RFC 2464)
+abbrev pub type_for : Key → ℕ
+type_for (V4 address) = 0x0800
+type_for (V6 address) = 0x86dd
+
+-- a header from the host with the type of the key's family, and the payload without padding
 abbrev pub frame_to : Host → Mac → SendItem → List ℕ
-frame_to host mac item = mac.0 ++ host.mac.0 ++ ether_type item.key ++ item.payload
+frame_to host mac item = eth_bytes mac host.mac (type_for item.key) ++ item.payload
 
 -- the packet that an id names: of sender `id % 32`, the item of number `id / 32`
 abbrev pub packet_of : Plan → OpId → Option SendItem
@@ -19,3 +30,21 @@ packet_of plan id = option_and_then (λ items. slice_get items (id.0 / 32 - 1)) 
 -- the frame of a packet that goes to the address
 abbrev pub sent_frame : Plan → OpId → Mac → List ℕ
 sent_frame plan id mac = option_map_or (frame_to plan.host mac) (packet_of plan id) []
+
+-- ---- solicitations of IPv4 addresses (RFC 826; Linux, arp_solicit)
+
+-- the address of all hosts on a link
+abbrev pub everyone : Mac
+everyone = record { 0 = replicate 6 0xff }
+
+-- the address that a request leaves open
+abbrev pub unknown : Mac
+unknown = record { 0 = replicate 6 0 }
+
+-- the host asks who has the address; a host without an IPv4 address gives 0 as its own, but it has no IPv4 neighbours
+abbrev pub request_for : Host → ℕ → Arp
+request_for host address = record { op = 1; sha = host.mac; spa = unwrap_or host.ip4 0; tha = unknown; tpa = address }
+
+-- the frame in which the request goes from the host to a link address
+abbrev pub request_frame : Host → Mac → ℕ → List ℕ
+request_frame host mac address = eth_bytes mac host.mac 0x0806 ++ arp_bytes (request_for host address)

@@ -1,14 +1,15 @@
 -- The laws of runs and of their reports.
-use Rattle.std.specs.Prelude.{◌≡◌, true, false, List}
-use Rattle.std.specs.List.{AllByRecursion}
+use Rattle.std.specs.Prelude.{◌≡◌, ◌+◌, ◌<◌, true, false, List}
+use Rattle.std.specs.List.{list_any, AllByRecursion}
 use Rattle.nb_base.specs.declared.line.Line.{Line}
 use Rattle.nb_base.specs.declared.plan.Plan.{Plan}
 use Rattle.nb_base.specs.Name.{is_name}
 use Rattle.nb_base.specs.Params.{InRange}
 use Rattle.text_codes.specs.Lines.{is_set_in, rows_of}
 use Rattle.neigh_run.specs.declared.run.Run.{Run}
+use Rattle.neigh_run.specs.Merged.{packet_count, is_sending}
 use Rattle.neigh_run.specs.Inline.{IsInlineRun}
-use Rattle.neigh_run.specs.Report.{lines_below, line_words, report, report_text}
+use Rattle.neigh_run.specs.Report.{lines_below, line_words, sent_count, fast_count, dropped_count, waiting_count, report, report_text}
 
 -- a plan has at most one inline run
 abbrev pub InlineRunsAreOne : Type 0
@@ -34,3 +35,12 @@ TextsTellReports = (run other : Run) → IsNamed run → IsNamed other → repor
 pub record OnlyBelowIsSetIn : Type 0 where
   pub below : (plan : Plan) (past : List Line) (line : Line) → AllByRecursion (λ row. is_set_in row ≡ true) (lines_below plan past line line.op)
   pub line : (plan : Plan) (past : List Line) (line : Line) → is_set_in (line_words plan past line) ≡ false
+
+-- the packets of a plan's inline run that went out by journals, that went out fast (none does), that were dropped and that wait are together the packets of the plan, where participant 0 sends none itself
+abbrev pub FatesAddUpInline : Type 0
+FatesAddUpInline =
+    (plan : Plan) (run : Run)
+    → 0 < plan.buckets
+    → list_any is_sending plan.control ≡ false
+    → IsInlineRun plan run
+    → sent_count run + fast_count run + dropped_count run + waiting_count run ≡ packet_count plan

@@ -1,5 +1,5 @@
 -- The operations of a plan, in the order in which an inline run enters them.
-use Rattle.std.specs.Prelude.{ℕ, ◌+◌, ◌*◌, Bool, true, nat_le, ◌==◌, if◌then◌else◌, List, [], ◌∷◌, ◌++◌, fold, filter, Option, Some, None}
+use Rattle.std.specs.Prelude.{ℕ, ◌+◌, ◌*◌, Bool, true, false, nat_le, ◌==◌, if◌then◌else◌, List, [], ◌∷◌, ◌++◌, fold, filter, length, sum_by, Option, Some, None}
 use Rattle.std.specs.Option.{option_map_or, option_to_list}
 use Rattle.nb_base.specs.declared.time.OpId.{OpId}
 use Rattle.nb_base.specs.declared.op.Op.{Op}
@@ -9,7 +9,7 @@ use Rattle.nb_base.specs.declared.plan.SendItem.{SendItem}
 use Rattle.nb_base.specs.declared.plan.ControlItem.{ControlItem}
 use Rattle.nb_base.specs.declared.plan.ControlItem.TheVariants as control
 use Rattle.nb_base.specs.Buckets.{bucket_of}
-use Rattle.nb_journal.specs.Keys.{key_of}
+use Rattle.nb_journal.specs.Keys.{key_of, is_send}
 
 -- an operation with its id and its item's moment
 pub record Entered : Type 0 where
@@ -62,3 +62,15 @@ goes_to buckets b o = option_map_or (λ key. bucket_of buckets key == b) (key_of
 -- a bucket's operations in merged order
 abbrev pub merged_for : Plan → ℕ → List Entered
 merged_for plan b = filter (λ entered. goes_to plan.buckets b entered.op) (merged plan)
+
+-- ---- packets
+
+-- how many packets the senders have
+abbrev pub packet_count : Plan → ℕ
+packet_count plan = sum_by length plan.senders
+
+-- participant 0 sends a packet itself (no script asks for that)
+abbrev pub is_sending : ControlItem → Bool
+is_sending (control.Neigh at o) = is_send o
+is_sending (control.Frame at bytes) = false
+is_sending (control.Proxy at key add) = false

@@ -1,5 +1,6 @@
--- What a script asks of a run, and the plans that are plain.
-use Rattle.std.specs.Prelude.{ℕ, zero, suc, ◌+◌, ◌≤◌, map, Bool, true, false, ◌&&◌, ◌==◌, nat_le, if◌then◌else◌, List, [], ◌∷◌, ◌++◌, flat_map, length, Some}
+-- What a script asks of a run, the plans that are plain, and those that are replayed.
+use Rattle.std.specs.Prelude.{ℕ, zero, suc, ◌+◌, ◌≤◌, map, Bool, true, false, ◌&&◌, ◌==◌, nat_le, nat_lt, if◌then◌else◌, List, [], ◌∷◌, ◌++◌, flat_map, fold, length, Some}
+use Rattle.std.specs.Option.{option_map_or}
 use Rattle.std.specs.List.{list_any, list_all}
 use Rattle.nb_base.specs.declared.key.Key.{Key}
 use Rattle.nb_base.specs.declared.key.Key.TheVariants.{V4, V6}
@@ -16,7 +17,8 @@ use Rattle.neigh_script.specs.declared.script.Script.{Script}
 use Rattle.neigh_script.specs.declared.script.ScriptItem.{ScriptItem}
 use Rattle.neigh_script.specs.declared.script.ScriptItem.TheVariants as item
 use Rattle.neigh_script.specs.Context.{at_of}
-use Rattle.nb_journal.specs.Keys.{is_key}
+use Rattle.nb_journal.specs.Keys.{is_key, key_of}
+use Rattle.nb_journal.specs.Fold.{with_key}
 use Rattle.neigh_run.specs.Merged.{Entered, merged}
 
 -- ---- the plan of a script (this project's own)
@@ -123,6 +125,36 @@ has_plain_items plan =
 -- and in merged order every send has an `add` of its key before it
 unfoldable pub is_plain : Plan → Bool
 is_plain plan = has_plain_items plan && each_finds_its_add [] (merged plan)
+
+-- ---- plans that are replayed (this project's own): of their fewer than 128 IPv4 keys no sweep and no forced pass takes one away
+
+-- each parameter of the garbage collection has its default
+abbrev pub has_default_collection : Params → Bool
+has_default_collection p = has_default_thresholds p && p.gc_interval == default_params.gc_interval && p.gc_stale_time == default_params.gc_stale_time
+
+-- an operation names no IPv6 key
+abbrev pub names_no_ip6 : Op → Bool
+names_no_ip6 o = option_map_or is_ip4 (key_of o) true
+
+-- an operation on the table, which names no IPv6 key; no captured frame, and no proxy entry
+abbrev pub is_replayed_item : ControlItem → Bool
+is_replayed_item (control.Neigh at o) = names_no_ip6 o
+is_replayed_item (control.Frame at bytes) = false
+is_replayed_item (control.Proxy at key add) = false
+
+-- the parameters of the garbage collection have their defaults, participant 0's items are such operations, and every packet goes to an IPv4 address
+abbrev pub has_replayed_items : Plan → Bool
+has_replayed_items plan =
+    has_default_collection plan.params && list_all is_replayed_item plan.control
+    && list_all (λ items. list_all is_plain_send items) plan.senders
+
+-- the different keys that operations name, in the order of the first operations that name them
+unfoldable pub keys_named : List Entered → List Key
+keys_named operations = fold (λ keys entered. with_key keys (key_of entered.op)) [] operations
+
+-- and the operations name fewer than 128 different keys
+unfoldable pub is_replayed : Plan → Bool
+is_replayed plan = has_replayed_items plan && nat_lt (length (keys_named (merged plan))) 128
 
 -- ---- plans within the limits of a script
 

@@ -1,7 +1,9 @@
 -- The text of a run: lines of words, in ten parts.
 use Rattle.std.specs.Prelude.{ℕ, ◌+◌, ◌∷◌, Bool, true, false, List, [], ◌++◌, map, filter, fold, length, Option, Some, None, codes, decimal}
 use Rattle.std.specs.List.{flat_map}
+use Rattle.nb_base.specs.declared.mac.Mac.{Mac}
 use Rattle.nb_base.specs.declared.key.Key.{Key}
+use Rattle.nb_base.specs.declared.key.Key.TheVariants.{V4, V6}
 use Rattle.nb_base.specs.declared.time.OpId.{OpId}
 use Rattle.nb_base.specs.declared.op.Op.{Op}
 use Rattle.nb_base.specs.declared.op.Op.TheVariants as op
@@ -17,13 +19,13 @@ use Rattle.nb_base.specs.declared.host_line.Mark.{Mark}
 use Rattle.nb_base.specs.declared.host_line.Placed.{Placed}
 use Rattle.nud_machine.specs.declared.act.Act.{Act}
 use Rattle.nud_machine.specs.declared.act.Act.TheVariants as act
-use Rattle.nb_journal.specs.Fold.{state_of, known_keys, reply_of, is_transmit}
-use Rattle.nb_journal.specs.Accounts.{acts_at}
+use Rattle.nb_journal.specs.Fold.{acts_of, known_keys, reply_of, is_transmit}
+use Rattle.nb_journal.specs.Accounts.{is_drop, acts_behind, waiting_behind}
 use Rattle.neigh_run.specs.declared.run.Run.{Run}
 use Rattle.text_codes.specs.Lines.{Words, text_of}
 use Rattle.text_codes.specs.HexText.{hex_text}
 use Rattle.neigh_run.specs.Spelling.{dash, mode_word, host_words, op_words, id_text, id_word, reply_words, reply_part, cause_word, class_word, placed_words}
-use Rattle.neigh_run.specs.Frames.{sent_frame}
+use Rattle.neigh_run.specs.Frames.{sent_frame, everyone, request_frame}
 use Rattle.neigh_run.specs.Entries.{entries_after, proxies_with, proxy_words}
 
 -- `neigh 1 mode MODE buckets N senders N window MS`
@@ -36,18 +38,27 @@ head_words run =
 abbrev pub set_in : Words → Words
 set_in words = [] ∷ [] ∷ words
 
--- an act's line (solicitations aren't spelled yet)
-abbrev pub act_lines : Plan → Act → List Words
-act_lines plan (act.Transmit id mac) = set_in (codes "tx" ∷ id_text id ∷ hex_text (sent_frame plan id mac) ∷ []) ∷ []
-act_lines plan (act.Wait id) = set_in (codes "wait" ∷ id_text id ∷ []) ∷ []
-act_lines plan (act.Drop id why) = set_in (codes "drop" ∷ id_text id ∷ cause_word why ∷ []) ∷ []
-act_lines plan act.SolicitGroup = []
-act_lines plan (act.SolicitUnicast mac) = []
+-- the line of a solicitation of a key that goes to a link address (for an IPv6 key it isn't spelled yet)
+abbrev pub solicit_lines : Plan → Key → Mac → List Words
+solicit_lines plan (V4 address) mac = set_in (codes "solicit" ∷ hex_text (request_frame plan.host mac address) ∷ []) ∷ []
+solicit_lines plan (V6 address) mac = []
 
--- a look lists the entries; every other line has its acts
+-- an act's line, for the key whose entry acts
+abbrev pub act_lines : Plan → Key → Act → List Words
+act_lines plan key (act.Transmit id mac) = set_in (codes "tx" ∷ id_text id ∷ hex_text (sent_frame plan id mac) ∷ []) ∷ []
+act_lines plan key (act.Wait id) = set_in (codes "wait" ∷ id_text id ∷ []) ∷ []
+act_lines plan key (act.Drop id why) = set_in (codes "drop" ∷ id_text id ∷ cause_word why ∷ []) ∷ []
+act_lines plan key act.SolicitGroup = solicit_lines plan key everyone
+act_lines plan key (act.SolicitUnicast mac) = solicit_lines plan key mac
+
+-- the acts of a line behind the past, for a key
+abbrev pub key_lines : Plan → List Line → Line → Key → List Words
+key_lines plan past line key = flat_map (act_lines plan key) (acts_of plan.params past line key)
+
+-- a look lists the entries; every other line has its acts, over the keys that are known behind it, by rank
 abbrev pub lines_below : Plan → List Line → Line → Op → List Words
 lines_below plan past line op.Show = map (λ words. set_in (codes "entry" ∷ words)) (entries_after plan.host plan.params past)
-lines_below plan past line _ = flat_map (act_lines plan) (acts_at plan.params past line)
+lines_below plan past line _ = flat_map (key_lines plan past line) (known_keys (past ++ line ∷ []))
 
 -- `PLACE MOMENT ID OP -> REPLY`
 abbrev pub line_words : Plan → List Line → Line → Words
@@ -114,12 +125,7 @@ mark_words mark = codes "mark" ∷ start_word mark.start ∷ map decimal mark.le
 
 -- all acts of a journal's lines behind the past, in order
 abbrev pub journal_acts : Plan → List Line → List Line → List Act
-journal_acts plan past [] = []
-journal_acts plan past (line ∷ lines) = acts_at plan.params past line ++ journal_acts plan (past ++ line ∷ []) lines
-
-abbrev pub is_drop : Act → Bool
-is_drop (act.Drop id why) = true
-is_drop _ = false
+journal_acts plan past lines = acts_behind plan.params past lines
 
 abbrev pub is_fast : Outcome → Bool
 is_fast (outcome.Fast number header) = true
@@ -130,15 +136,28 @@ all_acts run = flat_map (journal_acts run.plan []) run.journals
 
 -- the packets that wait behind a journal
 abbrev pub waiting_after : Plan → List Line → List OpId
-waiting_after plan journal = flat_map (λ key. (state_of plan.params journal key).waiting) (known_keys journal)
+waiting_after plan journal = waiting_behind plan.params journal
 
--- packets that were sent from journals, fast ones, dropped ones, and those that wait at the end
+-- the packets that went out by lines of journals
+abbrev pub sent_count : Run → ℕ
+sent_count run = length (filter is_transmit (all_acts run))
+
+-- those that went out fast
+abbrev pub fast_count : Run → ℕ
+fast_count run = length (flat_map (filter is_fast) run.logs)
+
+-- those that were dropped
+abbrev pub dropped_count : Run → ℕ
+dropped_count run = length (filter is_drop (all_acts run))
+
+-- and those that wait at the end
+abbrev pub waiting_count : Run → ℕ
+waiting_count run = length (flat_map (waiting_after run.plan) run.journals)
+
 abbrev pub fates_words : Run → Words
 fates_words run =
-    codes "fates" ∷ codes "sent" ∷ decimal (length (filter is_transmit (all_acts run)))
-    ∷ codes "fast" ∷ decimal (length (flat_map (filter is_fast) run.logs))
-    ∷ codes "dropped" ∷ decimal (length (filter is_drop (all_acts run)))
-    ∷ codes "waiting" ∷ decimal (length (flat_map (waiting_after run.plan) run.journals)) ∷ []
+    codes "fates" ∷ codes "sent" ∷ decimal (sent_count run) ∷ codes "fast" ∷ decimal (fast_count run)
+    ∷ codes "dropped" ∷ decimal (dropped_count run) ∷ codes "waiting" ∷ decimal (waiting_count run) ∷ []
 
 -- the present entries, by bucket and then by rank
 abbrev pub table : Run → List Words

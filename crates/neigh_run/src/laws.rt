@@ -1,5 +1,5 @@
 //! The laws of runs and of their reports. Each function does nothing: its contract is the law.
-ghost use Rattle.neigh_run.specs.Laws.{InlineRunsAreOne, TextsTellInlineRuns, ReportsGiveTheirLinesBack, TextsTellReports, OnlyBelowIsSetIn};
+ghost use Rattle.neigh_run.specs.Laws.{InlineRunsAreOne, TextsTellInlineRuns, ReportsGiveTheirLinesBack, TextsTellReports, OnlyBelowIsSetIn, FatesAddUpInline};
 
 /// A plan has at most one inline run: its operations, in their order, force every journal line, every reply and every outcome.
 pub fn inline_runs_are_one()
@@ -21,4 +21,9 @@ pub fn reports_give_their_lines_back()
 /// In a journal only what stands below a line begins with a space, so a reader tells each line from its acts.
 pub fn only_what_stands_below_is_set_in()
     ensures { OnlyBelowIsSetIn }
+{}
+
+/// The four numbers of a report's fates are together the packets of the plan, in an inline run of a plan whose participant 0 sends no packet itself.
+pub fn fates_add_up_inline()
+    ensures { FatesAddUpInline }
 {}
