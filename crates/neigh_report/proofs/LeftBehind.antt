@@ -1,12 +1,15 @@
 -- Journals, line by line from their front.
-use Rattle.std.proofs.Common.{◌≡◌, ℕ, suc, Bool, true, false, ◌+◌, List, [], ◌∷◌, ◌++◌, length, refl, sym, ap, ◌∙◌, append_assoc, append-nil, arith}
+use Rattle.std.proofs.Common.{◌≡◌, ℕ, zero, suc, Bool, true, false, ◌+◌, ◌*◌, ◌^◌, ◌<◌, ◌≤◌, get_or, take, subst, List, [], ◌∷◌, ◌++◌, length, refl, sym, ap, ◌∙◌, append_assoc, append-nil, arith}
 use Rattle.nb_base.specs.declared.line.Line.{Line}
 use Rattle.nb_base.specs.declared.params.Params.{Params}
 use Rattle.nud_machine.specs.declared.act.Act.{Act}
 use Rattle.nb_journal.specs.Accounts.{acts_at}
 use Rattle.std.specs.Prelude.{map, filter, Option, Result, Ok, Err, OnOk, is_ok, if◌then◌else◌, codes, decimal}
-use Rattle.std.specs.List.{flat_map}
-use Rattle.std.proofs.lemmas.List.{map-append, flat_map_more}
+use Rattle.std.specs.List.{flat_map, AllByRecursion}
+use Rattle.std.proofs.lemmas.List.{length-map, length-append, flat_map_more}
+use Rattle.std.proofs.Math.Nat.{mul-le-mul_right}
+use Rattle.nb_journal.proofs.Folds.{known_keys-within}
+use Rattle.nb_journal.proofs.Takes.{taken}
 use Rattle.std.proofs.lemmas.Grind.{flat_map-append}
 use Rattle.nb_base.specs.declared.key.Key.{Key}
 use Rattle.nb_base.specs.declared.time.OpId.{OpId}
@@ -15,16 +18,16 @@ use Rattle.nb_base.specs.declared.plan.Plan.{Plan}
 use Rattle.nb_base.specs.declared.op.Op.{Op}
 use Rattle.nb_base.specs.declared.op.Op.TheVariants as op
 use Rattle.nud_machine.specs.State.{State}
-use Rattle.nb_journal.specs.Evaluated.{state_in}
-use Rattle.nb_journal.specs.Fold.{state_of, known_keys, reply_of}
+use Rattle.nb_journal.specs.Evaluated.{state_in, IsStep}
+use Rattle.nb_journal.specs.Fold.{state_of, known_keys, present_count}
 use Rattle.text_codes.specs.Lines.{Words, line_text, text_of}
 use Rattle.neigh_run.specs.Report.{lines_below, line_words, journal_lines, bucket_lines, journal_acts, waiting_after, counted}
 use Rattle.neigh_run.specs.Entries.{entry_if_present, entries_after, entry_words}
 use Rattle.neigh_run.specs.Spelling.{id_word, op_words, reply_part}
 use Rattle.nb_base.specs.declared.line.Reply.{Reply}
-use Rattle.neigh_report.specs.declared.slot.Slot.{Slot}
-use Rattle.neigh_report.specs.Slots.{AreSlots, is_present}
-use Rattle.neigh_report.specs.Left.{slot_entry, entries, listed, listing, look, acts_below, waits, bucket_of_journal}
+use Rattle.journal_fold.specs.Taken.{Taken}
+use Rattle.nb_journal.specs.declared.kept.Kept.{Kept}
+use Rattle.neigh_report.specs.Left.{entries, waiting_for, waits, waits_behind, IsShortFold, bucket_of_journal}
 
 pub acts_more : (plan : Plan) (past xs : List Line) (x : Line) → journal_acts plan past (xs ++ x ∷ []) ≡ journal_acts plan past xs ++ acts_at plan.params (past ++ xs) x
 acts_more plan past [] x = append-nil (acts_at plan.params past x) ∙ ap (λ (l : List Line). acts_at plan.params l x) (sym (append-nil past))
@@ -33,59 +36,9 @@ acts_more plan past (y ∷ xs) x =
     ∙ sym (append_assoc (acts_at plan.params past y) (journal_acts plan (past ++ y ∷ []) xs) (acts_at plan.params ((past ++ y ∷ []) ++ xs) x))
     ∙ ap (λ (l : List Line). (acts_at plan.params past y ++ journal_acts plan (past ++ y ∷ []) xs) ++ acts_at plan.params l x) (append_assoc past (y ∷ []) xs)
 
-same_entry : (host : Host) (p : Params) (f : Key → State) (key : Key) (slot : Slot) → slot.key ≡ key → state_in slot.kept ≡ f key → slot_entry host slot ≡ entry_if_present host key (f key).entry
-same_entry host p f key slot at is = ap (λ (k : Key). entry_if_present host k slot.kept.entry) at ∙ ap (λ (s : State). entry_if_present host key s.entry) is
-
--- the entries that slots hold are those of their keys
-pub entries_are : (host : Host) (p : Params) (f : Key → State) (keys : List Key) (slots : List Slot) → AreSlots p f keys slots → entries host slots ≡ flat_map (λ key. entry_if_present host key (f key).entry) keys
-entries_are host p f [] [] h = refl
-entries_are host p f [] (slot ∷ slots) h = absurd h
-entries_are host p f (key ∷ keys) [] h = absurd h
-entries_are host p f (key ∷ keys) (slot ∷ slots) h = rw (same_entry host p f key slot h.0 h.1, entries_are host p f keys slots h.3) refl
-
-listing_maps : (host : Host) (slots : List Slot) → listing host slots ≡ map listed (entries host slots)
-listing_maps host [] = refl
-listing_maps host (slot ∷ slots) = ap (λ (rows : List Words). map listed (slot_entry host slot) ++ rows) (listing_maps host slots) ∙ sym (map-append listed (slot_entry host slot) (entries host slots))
-
-pub below_is : (plan : Plan) (past : List Line) (line : Line) (slots : List Slot) (o : Op) → AreSlots plan.params (state_of plan.params past) (known_keys past) slots
-    → look plan.host slots o ++ acts_below plan o (acts_at plan.params past line) ≡ lines_below plan past line o
-below_is plan past line slots op.Show h = append-nil (listing plan.host slots) ∙ listing_maps plan.host slots ∙ ap (map listed) (entries_are plan.host plan.params (state_of plan.params past) (known_keys past) slots h)
-below_is plan past line slots (op.Send key) h = refl
-below_is plan past line slots (op.Arp key mac make solicited) h = refl
-below_is plan past line slots (op.Ns key mac) h = refl
-below_is plan past line slots (op.Na key mac router solicited overrides) h = refl
-below_is plan past line slots (op.Add key mac nud) h = refl
-below_is plan past line slots (op.Change key mac nud) h = refl
-below_is plan past line slots (op.Replace key mac nud) h = refl
-below_is plan past line slots (op.Del key) h = refl
-below_is plan past line slots (op.Confirm key) h = refl
-below_is plan past line slots op.Flush h = refl
-below_is plan past line slots (op.Timer key) h = refl
-below_is plan past line slots op.Sweep h = refl
-below_is plan past line slots (op.Collect key) h = refl
-
 pub on_ok : {X E : Type 0} (r : Result X E) (P : Type 0) → P → OnOk r P
 on_ok (Ok x) P h = h
 on_ok (Err e) P h = tt {0}
-
--- a line with what stands below it, as it is put together
-pub written_is : (plan : Plan) (past : List Line) (line : Line) (slots : List Slot) (own : List Act) (reply : Option Reply) (report lined pushed below1 below2 : List ℕ)
-    → AreSlots plan.params (state_of plan.params past) (known_keys past) slots
-    → below1 ≡ text_of (look plan.host slots line.op)
-    → own ≡ acts_at plan.params past line
-    → below2 ≡ below1 ++ text_of (acts_below plan line.op own)
-    → reply ≡ reply_of plan.params past line
-    → lined ≡ report ++ line_text (decimal (length past) ∷ decimal line.at ∷ id_word line.id ∷ (op_words line.op ++ codes "->" ∷ reply_part reply))
-    → pushed ≡ lined ++ below2
-    → pushed ≡ report ++ text_of (line_words plan past line ∷ lines_below plan past line line.op)
-written_is plan past line slots own reply report lined pushed below1 below2 are e1 acts e2 answer el ep =
-    let below : below2 ≡ text_of (lines_below plan past line line.op) =
-    e2 ∙ ap (λ (xs : List ℕ). xs ++ text_of (acts_below plan line.op own)) e1
-    ∙ ap (λ (xs : List Act). text_of (look plan.host slots line.op) ++ text_of (acts_below plan line.op xs)) acts
-    ∙ sym (flat_map-append line_text (look plan.host slots line.op) (acts_below plan line.op (acts_at plan.params past line)))
-    ∙ ap text_of (below_is plan past line slots line.op are) in
-    let front = el ∙ ap (λ (r : Option Reply). report ++ line_text (decimal (length past) ∷ decimal line.at ∷ id_word line.id ∷ (op_words line.op ++ codes "->" ∷ reply_part r))) answer in
-    ep ∙ ap (λ (xs : List ℕ). xs ++ below2) front ∙ ap (λ (xs : List ℕ). (report ++ line_text (line_words plan past line)) ++ xs) below ∙ append_assoc report (line_text (line_words plan past line)) (text_of (lines_below plan past line line.op))
 
 pub lines_more : (plan : Plan) (past xs : List Line) (x : Line) → journal_lines plan past (xs ++ x ∷ []) ≡ journal_lines plan past xs ++ (line_words plan (past ++ xs) x ∷ lines_below plan (past ++ xs) x x.op)
 lines_more plan past [] x = append-nil (line_words plan past x ∷ lines_below plan past x x.op) ∙ ap (λ (l : List Line). line_words plan l x ∷ lines_below plan l x x.op) (sym (append-nil past))
@@ -102,27 +55,6 @@ written_more plan xs x report written more e one =
     one ∙ ap (λ (bytes : List ℕ). bytes ++ text_of (line_words plan xs x ∷ lines_below plan xs x x.op)) e
     ∙ append_assoc report (text_of (journal_lines plan [] xs)) (text_of (line_words plan xs x ∷ lines_below plan xs x x.op))
     ∙ ap (λ (bytes : List ℕ). report ++ bytes) (sym (flat_map-append line_text (journal_lines plan [] xs) (line_words plan xs x ∷ lines_below plan xs x x.op)) ∙ ap text_of (sym (lines_more plan [] xs x)))
-
--- the packets that wait in slots are those of their keys
-pub waits_are : (p : Params) (f : Key → State) (keys : List Key) (slots : List Slot) → AreSlots p f keys slots → waits slots ≡ flat_map (λ key. (f key).waiting) keys
-waits_are p f [] [] h = refl
-waits_are p f [] (slot ∷ slots) h = absurd h
-waits_are p f (key ∷ keys) [] h = absurd h
-waits_are p f (key ∷ keys) (slot ∷ slots) h =
-    let same : slot.kept.waiting.ids ≡ (f key).waiting = ap (λ (s : State). s.waiting) h.1 in
-    rw (same, waits_are p f keys slots h.3) refl
-
-pub entries_joined : (plan : Plan) (lines : List Line) (old other new : List Slot) → AreSlots plan.params (state_of plan.params lines) (known_keys lines) other → new ≡ old ++ other
-    → entries plan.host new ≡ entries plan.host old ++ entries_after plan.host plan.params lines
-entries_joined plan lines old other new are is =
-    ap (entries plan.host) is ∙ flat_map-append (slot_entry plan.host) old other
-    ∙ ap (λ (rows : List Words). entries plan.host old ++ rows) (entries_are plan.host plan.params (state_of plan.params lines) (known_keys lines) other are)
-
-pub waits_joined : (plan : Plan) (lines : List Line) (old other new : List Slot) → AreSlots plan.params (state_of plan.params lines) (known_keys lines) other → new ≡ old ++ other
-    → waits new ≡ waits old ++ waiting_after plan lines
-waits_joined plan lines old other new are is =
-    ap waits is ∙ flat_map-append (λ (slot : Slot). slot.kept.waiting.ids) old other
-    ∙ ap (λ (ids : List OpId). waits old ++ ids) (waits_are plan.params (state_of plan.params lines) (known_keys lines) other are)
 
 pub on_ok_if : {X E A : Type 0} (r : Result X E) (new joined before : A) (Q : Type 0) → new ≡ (if is_ok r then joined else before) → (new ≡ joined → Q) → OnOk r Q
 on_ok_if (Ok x) new joined before Q h f = f h
@@ -151,22 +83,76 @@ buckets_more plan xs x n report written more is e one =
 pub flat_more : {X A : Type 0} (f : X → List A) (xs : List X) (x : X) (so_far more : List A) → so_far ≡ flat_map f xs → more ≡ so_far ++ f x → more ≡ flat_map f (xs ++ x ∷ [])
 flat_more f xs x so_far more e one = rw (one, e) (flat_map_more f [] xs x)
 
--- as many slots have a present entry as rows are listed
-pub present_are : (host : Host) (slots : List Slot) → length (filter is_present slots) ≡ length (entries host slots)
-present_are host [] = refl
-present_are host (slot ∷ slots) = by_test slot.kept.entry.present (present_are host slots) where
-  by_test : (t : Bool) → length (filter is_present slots) ≡ length (entries host slots) → length (if t then slot ∷ filter is_present slots else filter is_present slots) ≡ length ((if t then entry_words host slot.key slot.kept.entry ∷ [] else []) ++ entries host slots)
+-- as many entries are present as rows are listed
+present_rows : (host : Host) (f : Key → State) (keys : List Key) → length (filter (λ (key : Key). (f key).entry.present) keys) ≡ length (flat_map (λ (key : Key). entry_if_present host key (f key).entry) keys)
+present_rows host f [] = refl
+present_rows host f (key ∷ keys) = by_test (f key).entry.present (present_rows host f keys) where
+  by_test : (t : Bool) → length (filter (λ (k : Key). (f k).entry.present) keys) ≡ length (flat_map (λ (k : Key). entry_if_present host k (f k).entry) keys)
+      → length (if t then key ∷ filter (λ (k : Key). (f k).entry.present) keys else filter (λ (k : Key). (f k).entry.present) keys)
+      ≡ length ((if t then entry_words host key (f key).entry ∷ [] else []) ++ flat_map (λ (k : Key). entry_if_present host k (f k).entry) keys)
   by_test true more = ap suc more
   by_test false more = more
+
+pub present_are : (host : Host) (p : Params) (lines : List Line) → present_count p lines ≡ length (entries_after host p lines)
+unfolding present_count
+present_are host p lines = present_rows host (state_of p lines) (known_keys lines)
+
+-- the packets that wait for the entries of known keys
+pub waits_are : (f : Key → State) (keys : List Key) (kept : List Kept) → map state_in kept ≡ map f keys → waiting_for kept ≡ flat_map (λ (key : Key). (f key).waiting) keys
+waits_are f [] [] h = refl
+waits_are f [] (one ∷ kept) h = cc
+waits_are f (key ∷ keys) [] h = cc
+waits_are f (key ∷ keys) (one ∷ kept) h =
+    let head : state_in one ≡ f key = cc in
+    let tail : map state_in kept ≡ map f keys = cc in
+    ap (λ (s : State). s.waiting ++ waiting_for kept) head ∙ ap (λ (ids : List OpId). (f key).waiting ++ ids) (waits_are f keys kept tail)
 
 pub on_ok_then : {X E : Type 0} (r : Result X E) (P Q : Type 0) → OnOk r P → (P → Q) → OnOk r Q
 on_ok_then (Ok x) P Q h f = f h
 on_ok_then (Err e) P Q h f = tt {0}
 
-pub table_is : (host : Host) (slots : List Slot) (old headed new : List ℕ) (n : ℕ) → n ≡ length (filter is_present slots) → headed ≡ old ++ line_text (codes "table" ∷ decimal n ∷ []) → new ≡ headed ++ text_of (entries host slots)
-    → new ≡ old ++ text_of (counted (codes "table" ∷ []) (entries host slots))
-table_is host slots old headed new n count e rows =
-    let same = count ∙ present_are host slots in
-    rows ∙ ap (λ (bytes : List ℕ). bytes ++ text_of (entries host slots)) e
-    ∙ ap (λ (k : ℕ). (old ++ line_text (codes "table" ∷ decimal k ∷ [])) ++ text_of (entries host slots)) same
-    ∙ append_assoc old (line_text (codes "table" ∷ decimal (length (entries host slots)) ∷ [])) (text_of (entries host slots))
+pub table_is : (host : Host) (folds : List Taken) (old headed new : List ℕ) (n : ℕ) → n ≡ length (entries host folds) → headed ≡ old ++ line_text (codes "table" ∷ decimal n ∷ []) → new ≡ headed ++ text_of (entries host folds)
+    → new ≡ old ++ text_of (counted (codes "table" ∷ []) (entries host folds))
+table_is host folds old headed new n count e rows =
+    rows ∙ ap (λ (bytes : List ℕ). bytes ++ text_of (entries host folds)) e
+    ∙ ap (λ (k : ℕ). (old ++ line_text (codes "table" ∷ decimal k ∷ [])) ++ text_of (entries host folds)) count
+    ∙ append_assoc old (line_text (codes "table" ∷ decimal (length (entries host folds)) ∷ [])) (text_of (entries host folds))
+
+-- ---- counts over folds
+
+counted_more : {X Y : Type 0} (f : X → List Y) (xs : List X) (i : ℕ) (x : X) (count one : ℕ) → i < length xs → x ≡ get_or xs i x → count ≡ length (flat_map f (take i xs)) → one ≡ length (f x)
+    → count + one ≡ length (flat_map f (take (i + 1) xs))
+counted_more {X = X} {Y = Y} f xs i x count one lt is so_far here =
+    let size = length-append (flat_map f (take i xs)) (f x) in
+    let joined : flat_map f (take (i + 1) xs) ≡ flat_map f (take i xs) ++ f x =
+    ap (flat_map f) (taken xs i x lt is) ∙ flat_map-append f (take i xs) (x ∷ []) ∙ ap (λ (ys : List Y). flat_map f (take i xs) ++ ys) (append-nil (f x)) in
+    let whole = ap (λ (ys : List Y). length ys) joined in
+    omega (arith, size, whole, so_far, here)
+
+pub present_more : (host : Host) (folds : List Taken) (i : ℕ) (fold : Taken) (count present : ℕ) → i < length folds → fold ≡ get_or folds i fold → count ≡ length (entries host (take i folds)) → present ≡ present_count fold.params fold.lines
+    → count + present ≡ length (entries host (take (i + 1) folds))
+present_more host folds i fold count present lt is so_far here =
+    counted_more (λ (x : Taken). entries_after host x.params x.lines) folds i fold count present lt is so_far (here ∙ present_are host fold.params fold.lines)
+
+pub waits_more : (folds : List Taken) (i : ℕ) (fold : Taken) (kept : List Kept) (count one : ℕ) → i < length folds → fold ≡ get_or folds i fold
+    → map state_in kept ≡ map (state_of fold.params fold.lines) (known_keys fold.lines) → count ≡ length (waits (take i folds)) → one ≡ length (waiting_for kept)
+    → count + one ≡ length (waits (take (i + 1) folds))
+waits_more folds i fold kept count one lt is states so_far here =
+    counted_more waits_behind folds i fold count one lt is so_far (here ∙ ap (λ (ids : List OpId). length ids) (waits_are (state_of fold.params fold.lines) (known_keys fold.lines) kept states))
+
+pub short_at : (folds : List Taken) (i : ℕ) (fold : Taken) → i < length folds → fold ≡ get_or folds i fold → AllByRecursion IsShortFold folds → IsShortFold fold
+short_at [] i fold lt is h = absurd (omega (arith, lt))
+short_at (x ∷ xs) zero fold lt is h = subst IsShortFold (sym is) h.0
+short_at (x ∷ xs) (suc i) fold lt is h = short_at xs i fold (omega (arith, lt)) is h.1
+
+-- a fold's waiting packets fit
+pub waits_fit : (fold : Taken) (kept : List Kept) (one : ℕ) → IsShortFold fold → map state_in kept ≡ map (state_of fold.params fold.lines) (known_keys fold.lines) → one ≤ length kept * 2 ^ 32 → one ≤ 2 ^ 64
+waits_fit fold kept one few states small =
+    let size = sym (length-map kept state_in) ∙ ap (λ (ss : List State). length ss) states ∙ length-map (known_keys fold.lines) (state_of fold.params fold.lines) in
+    let known = known_keys-within fold.lines in
+    let least : length kept ≤ 2 ^ 32 = omega (arith, size, known, few) in
+    omega (arith, mul-le-mul_right (2 ^ 32) least, small)
+
+-- the machine can step over a line behind lines that were taken
+pub step_there : (p here : Params) (past lines : List Line) (line : Line) → here ≡ p → lines ≡ past → IsStep p past line → IsStep here lines line
+step_there p here past lines line e is step = subst (λ (x : Params × List Line). IsStep x.0 x.1 line) (λ i. (sym e i, sym is i)) step

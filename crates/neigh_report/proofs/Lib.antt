@@ -1,8 +1,7 @@
 pub mod SpacedWords
 pub mod Outcomes
 pub mod Rests
-pub mod Changed
-pub mod Slotted
+pub mod LinesBelow
+pub mod Listing
 pub mod LeftBehind
-pub mod Replied
 pub mod WholeText

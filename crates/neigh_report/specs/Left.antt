@@ -1,5 +1,5 @@
 -- What is left behind journals. This project's own.
-use Rattle.std.specs.Prelude.{ℕ, ◌<◌, ◌^◌, length, decimal, List, [], ◌∷◌, ◌++◌, map, codes, flat_map}
+use Rattle.std.specs.Prelude.{ℕ, length, decimal, List, [], ◌∷◌, ◌++◌, map, codes, flat_map, unwrap_or}
 use Rattle.nb_base.specs.declared.line.Line.{Line}
 use Rattle.nb_base.specs.declared.params.Params.{Params}
 use Rattle.nud_machine.specs.declared.act.Act.{Act}
@@ -11,53 +11,63 @@ use Rattle.text_codes.specs.Lines.{Words}
 use Rattle.neigh_run.specs.declared.run.Run.{Run}
 use Rattle.neigh_run.specs.Spelling.{host_words}
 use Rattle.neigh_run.specs.Report.{set_in, act_lines, journal_lines, bucket_lines, head_words, host_line_words, sender_lines, mark_words, fates_words, table, proxies, counted}
-use Rattle.neigh_run.specs.Entries.{entry_if_present, proxy_words}
+use Rattle.nud_machine.specs.State.{State}
+use Rattle.neigh_run.specs.Entries.{entry_if_present, entries_after, proxy_words}
 use Rattle.nb_base.specs.declared.time.OpId.{OpId}
-use Rattle.nb_journal.specs.Lawful.{EachLine}
-use Rattle.nb_journal.specs.Evaluated.{IsStep}
-use Rattle.neigh_report.specs.declared.slot.Slot.{Slot}
+use Rattle.journal_fold.specs.Taken.{Taken}
+use Rattle.nb_journal.specs.declared.kept.Kept.{Kept}
+use Rattle.nb_base.specs.declared.key.Key.{Key}
+use Rattle.nb_base.specs.declared.key.Key.TheVariants.{V4}
+use Rattle.nb_journal.specs.Keys.{key_of}
+use Rattle.nb_journal.specs.Fold.{state_of, known_keys}
+use Rattle.nb_journal.specs.Evaluated.{IsShort}
 
--- the entry that a slot holds, where it is present
-abbrev pub slot_entry : Host → Slot → List Words
-slot_entry host slot = entry_if_present host slot.key slot.kept.entry
-
--- the present entries that slots hold
-abbrev pub entries : Host → List Slot → List Words
-entries host slots = flat_map (slot_entry host) slots
+-- the present ones of keys' entries
+abbrev pub rows : Host → List Key → List State → List Words
+rows host (key ∷ keys) (s ∷ states) = entry_if_present host key s.entry ++ rows host keys states
+rows host _ _ = []
 
 -- an entry as a look lists it
 abbrev pub listed : Words → Words
 listed words = set_in (codes "entry" ∷ words)
 
--- and all of them
-abbrev pub listing : Host → List Slot → List Words
-listing host slots = flat_map (λ slot. map listed (slot_entry host slot)) slots
-
 -- what stands below a look
-abbrev pub look : Host → List Slot → Op → List Words
-look host slots op.Show = listing host slots
-look host slots _ = []
+abbrev pub look : Host → Params → List Line → Op → List Words
+look host p past op.Show = map listed (entries_after host p past)
+look host p past _ = []
+
+-- the key that an operation names, or any where it names none
+abbrev pub named : Op → Key
+named o = unwrap_or (key_of o) (V4 0)
 
 -- what stands below every other line
 abbrev pub acts_below : Plan → Op → List Act → List Words
 acts_below plan op.Show acts = []
-acts_below plan _ acts = flat_map (act_lines plan) acts
+acts_below plan o acts = flat_map (act_lines plan (named o)) acts
 
--- the packets that wait in slots
-abbrev pub waits : List Slot → List OpId
-waits slots = flat_map (λ slot. slot.kept.waiting.ids) slots
+-- the present entries behind journals
+abbrev pub entries : Host → List Taken → List Words
+entries host folds = flat_map (λ (fold : Taken). entries_after host fold.params fold.lines) folds
+
+-- a fold over fewer than 2^32 lines
+abbrev pub IsShortFold : Taken → Type 0
+IsShortFold fold = IsShort fold.lines
+
+-- the packets that wait for entries
+abbrev pub waiting_for : List Kept → List OpId
+waiting_for kept = flat_map (λ (one : Kept). one.waiting.ids) kept
+
+-- the packets that wait behind a journal
+abbrev pub waits_behind : Taken → List OpId
+waits_behind fold = flat_map (λ key. (state_of fold.params fold.lines key).waiting) (known_keys fold.lines)
+
+-- and behind all of them
+abbrev pub waits : List Taken → List OpId
+waits folds = flat_map waits_behind folds
 
 -- a bucket's journal, with its number and its length
 abbrev pub bucket_of_journal : Plan → ℕ → List Line → List Words
 bucket_of_journal plan b journal = (codes "bucket" ∷ decimal b ∷ codes "lines" ∷ decimal (length journal) ∷ []) ∷ journal_lines plan [] journal
-
--- a journal of fewer than 2^32 lines
-abbrev pub IsShort : List Line → Type 0
-IsShort journal = length journal < 2 ^ 32
-
--- a journal over which the machine can step
-abbrev pub IsStepped : Params → List Line → Type 0
-IsStepped p journal = EachLine (IsStep p) journal
 
 -- a report's lines before the counts
 abbrev pub top : Run → List Words

@@ -1,4 +1,2 @@
 pub mod Spaced
-pub mod Slots
 pub mod Left
-pub mod Verdicts

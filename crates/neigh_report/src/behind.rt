@@ -1,27 +1,25 @@
 //! What is left behind the journals: the acts of their lines, and the entries and packets in the end.
-ghost use Rattle.std.specs.Prelude.{◌≡◌, ◌<◌, ◌^◌, ◌++◌, [], length, string_bytes, IfOk, OnOk};
+ghost use Rattle.std.specs.Prelude.{◌≡◌, ◌<◌, ◌^◌, ◌++◌, ◌∷◌, [], length, string_bytes, IfOk, OnOk};
+ghost use Rattle.std.specs.List.{flat_map, AllByRecursion};
 ghost use Rattle.text_codes.specs.Lines.{text_of};
 ghost use Rattle.nb_base.specs.Params.{InRange};
 ghost use Rattle.nb_journal.specs.Lawful.{EachLine};
-ghost use Rattle.nb_journal.specs.Evaluated.{IsStep};
-ghost use Rattle.nb_journal.specs.Fold as fold;
-ghost use Rattle.neigh_run.specs.Report as report_of;
-ghost use Rattle.neigh_report.specs.Slots as kept_in;
+ghost use Rattle.nb_journal.specs.Evaluated.{IsShort, IsStep, IsStepped};
 ghost use Rattle.neigh_run.specs.Entries.{entries_after};
-ghost use Rattle.std.specs.List.{flat_map, AllByRecursion};
+ghost use Rattle.neigh_run.specs.Report as report_of;
 ghost use Rattle.neigh_report.specs.Left as left;
 
 use crate::below::write_and_take;
 use crate::journal_lines::write_bucket;
-use crate::slot::Slot;
+use journal_fold::Fold;
 use nb_base::{Journal, Line, Plan};
 use nud_machine::{Act, Acts};
 use std::alloc::{AllocError, Global};
 
-/// The keys behind journals with their entries, and all acts of their lines.
+/// The fold over each journal, and all acts of their lines.
 #[derive(Drop)]
 pub struct Behind {
-    pub slots: Vec<Slot>,
+    pub folds: Vec<Fold>,
     pub acts: Vec<Act>,
 }
 
@@ -32,32 +30,24 @@ pub fn write_journal(
     plan: &Plan,
     lines: &[Line],
     acts: &mut Vec<Act>,
-) -> Result<Vec<Slot>, AllocError>
+) -> Result<Fold, AllocError>
     requires params { InRange plan.now.params }
     requires few { length lines.now < 2 ^ 32 }
     requires steps { EachLine (IsStep plan.now.params) lines.now }
     ensures written { OnOk result (string_bytes report.new ≡ string_bytes report.old ++ text_of (report_of.journal_lines plan.now [] lines.now)) }
-    ensures slots { IfOk result (λ slots. kept_in.AreSlots plan.now.params (fold.state_of plan.now.params lines.now) (fold.known_keys lines.now) slots.items) }
+    ensures lines { IfOk result (λ fold. fold.lines ≡ lines.now) }
+    ensures params { IfOk result (λ fold. fold.params ≡ plan.now.params) }
     ensures acts { OnOk result (acts.new.items ≡ acts.old.items ++ report_of.journal_acts plan.now [] lines.now) }
 {
-    let mut slots = Vec::new(alloc);
+    let mut fold = Fold::new(alloc, &plan.params)?;
     let mut room = Acts::new(alloc)?;
-    for place in 0..lines.len() {
-        write_and_take(
-            alloc,
-            report,
-            plan,
-            &mut slots,
-            &lines[..place],
-            &lines[place],
-            &mut room,
-            acts,
-        )?;
+    for line in lines {
+        write_and_take(alloc, report, plan, &mut fold, line, &mut room, acts)?;
     }
-    Ok(slots)
+    Ok(fold)
 }
 
-/// Writes a bucket's journal. Its entries and acts come behind the others.
+/// Writes a bucket's journal. Its fold and its acts come behind the others.
 fn write_one_bucket(
     alloc: Global,
     report: &mut String,
@@ -71,12 +61,14 @@ fn write_one_bucket(
     requires steps { EachLine (IsStep plan.now.params) lines.now }
     ensures written { OnOk result (string_bytes report.new ≡ string_bytes report.old ++ text_of (left.bucket_of_journal plan.now number lines.now)) }
     ensures acts { OnOk result (behind.new.acts.items ≡ behind.old.acts.items ++ report_of.journal_acts plan.now [] lines.now) }
-    ensures entries { OnOk result (left.entries plan.now.host behind.new.slots.items ≡ left.entries plan.now.host behind.old.slots.items ++ entries_after plan.now.host plan.now.params lines.now) }
-    ensures waits { OnOk result (left.waits behind.new.slots.items ≡ left.waits behind.old.slots.items ++ report_of.waiting_after plan.now lines.now) }
+    ensures entries { OnOk result (left.entries plan.now.host behind.new.folds.items ≡ left.entries plan.now.host behind.old.folds.items ++ entries_after plan.now.host plan.now.params lines.now) }
+    ensures waits { OnOk result (left.waits behind.new.folds.items ≡ left.waits behind.old.folds.items ++ report_of.waiting_after plan.now lines.now) }
+    ensures few { AllByRecursion left.IsShortFold behind.old.folds.items → OnOk result (AllByRecursion left.IsShortFold behind.new.folds.items) }
 {
     write_bucket(report, number, lines.len())?;
-    let mut slots = write_journal(alloc, report, plan, lines, &mut behind.acts)?;
-    behind.slots.append(&mut slots)
+    let fold = write_journal(alloc, report, plan, lines, &mut behind.acts)?;
+    behind.folds.push(fold)?;
+    Ok(())
 }
 
 /// Writes the journals of all buckets.
@@ -87,15 +79,16 @@ pub fn write_buckets(
     journals: &[Journal],
 ) -> Result<Behind, AllocError>
     requires params { InRange plan.now.params }
-    requires few { AllByRecursion left.IsShort journals.now }
-    requires steps { AllByRecursion (left.IsStepped plan.now.params) journals.now }
+    requires few { AllByRecursion IsShort journals.now }
+    requires steps { AllByRecursion (IsStepped plan.now.params) journals.now }
     ensures written { OnOk result (string_bytes report.new ≡ string_bytes report.old ++ text_of (report_of.bucket_lines plan.now 0 journals.now)) }
     ensures acts { IfOk result (λ behind. behind.acts.items ≡ flat_map (report_of.journal_acts plan.now []) journals.now) }
-    ensures entries { IfOk result (λ behind. left.entries plan.now.host behind.slots.items ≡ flat_map (entries_after plan.now.host plan.now.params) journals.now) }
-    ensures waits { IfOk result (λ behind. left.waits behind.slots.items ≡ flat_map (report_of.waiting_after plan.now) journals.now) }
+    ensures entries { IfOk result (λ behind. left.entries plan.now.host behind.folds.items ≡ flat_map (entries_after plan.now.host plan.now.params) journals.now) }
+    ensures waits { IfOk result (λ behind. left.waits behind.folds.items ≡ flat_map (report_of.waiting_after plan.now) journals.now) }
+    ensures few { IfOk result (λ behind. AllByRecursion left.IsShortFold behind.folds.items) }
 {
     let mut behind = Behind {
-        slots: Vec::new(alloc),
+        folds: Vec::new(alloc),
         acts: Vec::new(alloc),
     };
     for number in 0..journals.len() {

@@ -1,21 +1,26 @@
-//! Frames of packets.
+//! Frames of packets and of solicitations, written by their codecs.
 ghost use Rattle.std.specs.Prelude.{◌≡◌, ◌++◌, string_bytes, OnOk};
 ghost use Rattle.std.specs.Option.{option_copied};
-ghost use Rattle.nud_machine.specs.Record as published;
 ghost use Rattle.text_codes.specs.HexText.{hex_text};
+ghost use Rattle.link_codec.specs.Arp.{arp_bytes};
+ghost use Rattle.link_codec.specs.Ethernet.{eth_bytes};
 ghost use Rattle.neigh_run.specs.Frames as frames;
 
 use crate::words::write_hex;
+use link_codec::{Arp, write_arp, write_eth};
 use nb_base::{Host, Key, Mac, OpId, Plan, SendItem};
 use std::alloc::AllocError;
 
+/// The Ethernet type of ARP.
+const ARP: u16 = 0x0806;
+
 /// The Ethernet type of the key's family.
-fn ether_type(key: &Key) -> [u8; 2]
-    ensures { result ≡ published.ether_type key.now }
+fn type_for(key: &Key) -> u16
+    ensures { result ≡ frames.type_for key.now }
 {
     match *key {
-        Key::V4(_) => [0x08, 0x00],
-        Key::V6(_) => [0x86, 0xdd],
+        Key::V4(_) => 0x0800,
+        Key::V6(_) => 0x86dd,
     }
 }
 
@@ -29,19 +34,25 @@ fn packet_of(plan: &Plan, id: OpId) -> Option<&SendItem>
     items.get(item as usize)
 }
 
-fn write_parts(
-    report: &mut String,
-    target: &[u8],
-    source: &[u8],
-    kind: &[u8],
-    payload: &[u8],
-) -> Result<(), AllocError>
-    ensures { OnOk result (string_bytes report.new ≡ string_bytes report.old ++ hex_text (target.now ++ source.now ++ kind.now ++ payload.now)) }
+fn write_header(report: &mut String, dst: &Mac, src: &Mac, ethertype: u16) -> Result<(), AllocError>
+    ensures { OnOk result (string_bytes report.new ≡ string_bytes report.old ++ hex_text (eth_bytes dst.now src.now ethertype)) }
 {
-    write_hex(report, target)?;
-    write_hex(report, source)?;
-    write_hex(report, kind)?;
-    write_hex(report, payload)
+    let mut header = [0; 14];
+    write_eth(&mut header, dst, src, ethertype);
+    write_hex(report, &header)
+}
+
+/// The frame in which a packet goes from the host to a link address.
+fn write_frame_to(
+    report: &mut String,
+    host: &Host,
+    mac: &Mac,
+    item: &SendItem,
+) -> Result<(), AllocError>
+    ensures { OnOk result (string_bytes report.new ≡ string_bytes report.old ++ hex_text (frames.frame_to host.now mac.now item.now)) }
+{
+    write_header(report, mac, &host.mac, type_for(&item.key))?;
+    write_hex(report, item.payload.as_slice())
 }
 
 /// The frame of the packet that goes to the address.
@@ -55,15 +66,41 @@ pub fn write_sent_frame(
 {
     match packet_of(plan, id) {
         None => Ok(()),
-        Some(item) => {
-            let kind = ether_type(&item.key);
-            write_parts(
-                report,
-                &mac.0,
-                &plan.host.mac.0,
-                &kind,
-                item.payload.as_slice(),
-            )
-        }
+        Some(item) => write_frame_to(report, &plan.host, mac, item),
     }
+}
+
+/// The host asks who has the address.
+fn request_for(host: &Host, address: u32) -> Arp
+    ensures { result ≡ frames.request_for host.now address }
+{
+    Arp {
+        op: 1,
+        sha: host.mac,
+        spa: host.ip4.unwrap_or(0),
+        tha: Mac([0; 6]),
+        tpa: address,
+    }
+}
+
+fn request_packet(host: &Host, address: u32) -> [u8; 28]
+    ensures { result ≡ arp_bytes (frames.request_for host.now address) }
+{
+    let mut packet = [0; 28];
+    write_arp(&mut packet, &request_for(host, address));
+    packet
+}
+
+/// The frame in which the request goes from the host to a link address.
+pub fn write_request(
+    report: &mut String,
+    host: &Host,
+    mac: &Mac,
+    address: u32,
+) -> Result<(), AllocError>
+    ensures { OnOk result (string_bytes report.new ≡ string_bytes report.old ++ hex_text (frames.request_frame host.now mac.now address)) }
+{
+    let packet = request_packet(host, address);
+    write_header(report, mac, &host.mac, ARP)?;
+    write_hex(report, &packet)
 }

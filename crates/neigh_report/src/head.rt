@@ -49,7 +49,7 @@ pub fn write_host(report: &mut String, host: &Host) -> Result<(), AllocError>
 
 /// A line that ends with the number of those that follow.
 #[tactic(auto, unfolding(text_codes::specs::Lines::line_text))]
-pub fn write_count(report: &mut String, front: &str, count: usize) -> Result<(), AllocError>
+pub fn write_count(report: &mut String, front: &str, count: u128) -> Result<(), AllocError>
     ensures { OnOk result (string_bytes report.new ≡ string_bytes report.old ++ line_text (front.now ∷ decimal count ∷ [])) }
 {
     writeln!(report, "{front} {count}")?;
@@ -103,7 +103,7 @@ fn write_each_mark(report: &mut String, marks: &[Mark]) -> Result<(), AllocError
 pub fn write_marks(report: &mut String, marks: &[Mark]) -> Result<(), AllocError>
     ensures { OnOk result (string_bytes report.new ≡ string_bytes report.old ++ text_of (report_of.counted (codes "marks" ∷ []) (map report_of.mark_words marks.now))) }
 {
-    write_count(report, "marks", marks.len())?;
+    write_count(report, "marks", marks.len() as u128)?;
     write_each_mark(report, marks)
 }
 

@@ -137,6 +137,6 @@ fn write_each_line(report: &mut String, lines: &[HostLine]) -> Result<(), AllocE
 pub fn write_host_journal(report: &mut String, lines: &[HostLine]) -> Result<(), AllocError>
     ensures { OnOk result (string_bytes report.new ≡ string_bytes report.old ++ text_of (report_of.counted (codes "host" ∷ codes "lines" ∷ []) (map report_of.host_line_words lines.now))) }
 {
-    write_count(report, "host lines", lines.len())?;
+    write_count(report, "host lines", lines.len() as u128)?;
     write_each_line(report, lines)
 }

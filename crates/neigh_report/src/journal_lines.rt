@@ -8,13 +8,16 @@ ghost use Rattle.text_codes.specs.HexText.{hex_text};
 ghost use Rattle.neigh_run.specs.Frames as frames;
 ghost use Rattle.neigh_run.specs.Report as report_of;
 
-use crate::frames::write_sent_frame;
+use crate::frames::{write_request, write_sent_frame};
 use crate::spelling::cause_word;
 use crate::words::{add_answer, add_id, add_op};
-use nb_base::{Line, Mac, OpId, Plan, Reply};
+use nb_base::{Host, Key, Line, Mac, OpId, Plan, Reply};
 use nud_machine::{Act, Cause};
 use std::alloc::AllocError;
 use std::fmt::Write;
+
+/// The address of all hosts on a link.
+const EVERYONE: Mac = Mac([0xff; 6]);
 
 /// A bucket's number, and how many lines its journal has.
 #[tactic(auto, unfolding(text_codes::specs::Lines::line_text))]
@@ -69,24 +72,55 @@ fn write_drop(report: &mut String, id: OpId, cause: Cause) -> Result<(), AllocEr
     Ok(())
 }
 
-/// An act. Solicitations aren't spelled.
-fn write_act(report: &mut String, plan: &Plan, act: &Act) -> Result<(), AllocError>
-    ensures { OnOk result (string_bytes report.new ≡ string_bytes report.old ++ text_of (report_of.act_lines plan.now act.now)) }
+#[tactic(auto, unfolding(text_codes::specs::Lines::line_text))]
+fn write_solicitation(
+    report: &mut String,
+    host: &Host,
+    mac: &Mac,
+    address: u32,
+) -> Result<(), AllocError>
+    ensures { OnOk result (string_bytes report.new ≡ string_bytes report.old ++ line_text (report_of.set_in (codes "solicit" ∷ hex_text (frames.request_frame host.now mac.now address) ∷ []))) }
+{
+    report.push_str("  solicit ")?;
+    write_request(report, host, mac, address)?;
+    writeln!(report)?;
+    Ok(())
+}
+
+/// A solicitation of a key that goes to a link address. For an IPv6 key it isn't spelled yet.
+fn write_solicit(report: &mut String, plan: &Plan, key: &Key, mac: &Mac) -> Result<(), AllocError>
+    ensures { OnOk result (string_bytes report.new ≡ string_bytes report.old ++ text_of (report_of.solicit_lines plan.now key.now mac.now)) }
+{
+    match *key {
+        Key::V4(address) => write_solicitation(report, &plan.host, mac, address),
+        Key::V6(_) => Ok(()),
+    }
+}
+
+/// An act of a key's entry.
+fn write_act(report: &mut String, plan: &Plan, key: &Key, act: &Act) -> Result<(), AllocError>
+    ensures { OnOk result (string_bytes report.new ≡ string_bytes report.old ++ text_of (report_of.act_lines plan.now key.now act.now)) }
 {
     match act {
         Act::Transmit(id, mac) => write_transmit(report, plan, *id, mac),
         Act::Wait(id) => write_wait(report, *id),
         Act::Drop(id, cause) => write_drop(report, *id, *cause),
-        Act::SolicitGroup | Act::SolicitUnicast(_) => Ok(()),
+        Act::SolicitGroup => write_solicit(report, plan, key, &EVERYONE),
+        Act::SolicitUnicast(mac) => write_solicit(report, plan, key, mac),
     }
 }
 
-/// The acts of a line, in their order.
-pub fn write_acts(report: &mut String, plan: &Plan, acts: &[Act]) -> Result<(), AllocError>
-    ensures { OnOk result (string_bytes report.new ≡ string_bytes report.old ++ text_of (flat_map (report_of.act_lines plan.now) acts.now)) }
+/// The acts of a key's entry, in their order.
+pub fn write_acts(
+    report: &mut String,
+    plan: &Plan,
+    key: &Key,
+    acts: &[Act],
+) -> Result<(), AllocError>
+    ensures { OnOk result (string_bytes report.new ≡ string_bytes report.old ++ text_of (flat_map (report_of.act_lines plan.now key.now) acts.now)) }
 {
     for act in acts {
-        write_act(report, plan, act)?;
+        write_act(report, plan, key, act)?;
     }
     Ok(())
 }

@@ -3,23 +3,21 @@
 
 mod behind;
 mod below;
-mod effects;
+mod counts;
 mod entries;
-mod fates;
 mod frames;
 mod head;
 mod host_journal;
 mod journal_lines;
 mod logs;
-mod naming;
 mod proxies;
-mod replies;
-mod slot;
 mod spelling;
-mod table;
+mod tally;
 #[cfg(test)]
 mod tests;
 mod whole;
 mod words;
 
+pub use counts::Fates;
+pub use tally::fates;
 pub use whole::text;

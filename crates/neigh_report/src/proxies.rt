@@ -7,8 +7,8 @@ ghost use Rattle.neigh_run.specs.Entries.{proxies_with, proxy_words};
 ghost use Rattle.neigh_run.specs.Report as report_of;
 
 use crate::head::write_count;
-use crate::naming::is_key;
 use nb_base::{ControlItem, Host, Key};
+use nb_journal::is_key;
 use std::alloc::{AllocError, Global};
 use std::fmt::Write;
 
@@ -89,6 +89,6 @@ pub fn write_proxies(
     ensures { OnOk result (string_bytes report.new ≡ string_bytes report.old ++ text_of (report_of.counted (codes "proxies" ∷ []) (map (proxy_words host.now) (fold proxies_with [] items.now)))) }
 {
     let keys = proxies_of(alloc, items)?;
-    write_count(report, "proxies", keys.len())?;
+    write_count(report, "proxies", keys.len() as u128)?;
     write_each_proxy(report, host, &keys)
 }

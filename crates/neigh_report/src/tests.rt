@@ -1,15 +1,13 @@
-use crate::entries::{write_entry, write_listed};
-use crate::head::{write_count, write_end, write_fates, write_head, write_host, write_marks};
-use crate::host_journal::write_host_journal;
-use crate::journal_lines::{write_acts, write_bucket, write_line};
-use crate::logs::write_logs;
-use crate::proxies::write_proxies;
+ghost use Rattle.std.specs.Prelude.{◌≡◌, [], IfOk};
+ghost use Rattle.nb_base.specs.Params.{InRange};
+
+use crate::{Fates, fates, text};
 use nb_base::{
-    Bytes, Class, Host, HostLine, Items, Key, Line, Mac, Mark, Mode, Moment, Name, Nud, Op, OpId,
-    Outcome, Params, Placed, Plan, Reply, SendItem, Why,
+    Bytes, Class, ControlItem, Host, HostLine, Items, Key, Line, Log, Mac, Mark, Mode, Moment,
+    Name, Nud, Op, OpId, Outcome, Params, Placed, Plan, Reply, SendItem, Why,
 };
+use nb_journal::is_evaluable;
 use neigh_run::Run;
-use nud_machine::{Act, Cause, Entry};
 use std::alloc::{AllocError, Global};
 use std::test::Fail;
 
@@ -17,14 +15,73 @@ const A: Mac = Mac([0x00, 0x11, 0x22, 0x33, 0x44, 0x55]);
 
 const ONE: Key = Key::V4(0x0a00_0001);
 
-const PACKET_REPORT: &str =
-    "neigh 1 mode inline buckets 1 senders 1 window 50\nhost dev eth0 lladdr 02:00:00:00:00:02 inet 10.0.0.2\nbucket 0 lines 2\n0 0 32 add 10.0.0.1 00:11:22:33:44:55 permanent -> done\n1 5 33 send 10.0.0.1 -> sent\n  tx 33 00112233445502000000000208004500\nhost lines 1\n1 0 neigh op 0 0 done\nsender 1 items 1\n1 5 inline 1 sent\nmarks 0\nfates sent 1 fast 0 dropped 0 waiting 0\ntable 1\n10.0.0.1 dev eth0 lladdr 00:11:22:33:44:55 PERMANENT\nproxies 0\nend\n";
+const THREE: Key = Key::V4(0x0a00_0003);
 
-const JOURNAL_LINES: &str =
-    "0 10 96 arp 10.0.0.1 00:11:22:33:44:55 make stale -> full 3\n1 11 - timer 10.0.0.1 -> -\n2 12 128 na fe80::1 - r-o -> ignored\n3 13 65 send 10.0.0.1 -> waits dropping 33\n  wait 65\n  drop 33 queuefull\n4 14 160 show -> counted 1\n  entry 10.0.0.1 dev eth0 router FAILED\n";
+const NINE: Key = Key::V4(0x0a00_0009);
 
-const HOST_LINES: &str =
-    "host lines 4\n1 0 frame arp proxied tx ab op 0 2 done\n2 5 frame ndbad3 proxyfull\n3 6 proxy exists\n- 7 answer 0102\nmarks 2\nmark 50 1 2\nmark end 3 4\nsender 1 items 2\n1 5 suspect 3 0 noprobes\n2 6 again 1/2 3/4 5/6 7/8 1 waits\n";
+const LINK_LOCAL: Key = Key::V6(0xfe80_0000_0000_0000_0000_0000_0000_0009);
+
+/// One permanent entry and a packet to it.
+const PACKET_REPORT: &str = "\
+neigh 1 mode inline buckets 1 senders 1 window 50
+host dev eth0 lladdr 02:00:00:00:00:02 inet 10.0.0.2
+bucket 0 lines 2
+0 0 32 add 10.0.0.1 00:11:22:33:44:55 permanent -> done
+1 5 33 send 10.0.0.1 -> sent
+  tx 33 00112233445502000000000208004500
+host lines 1
+1 0 neigh op 0 0 done
+sender 1 items 1
+1 5 inline 1 sent
+marks 0
+fates sent 1 fast 0 dropped 0 waiting 0
+table 1
+10.0.0.1 dev eth0 lladdr 00:11:22:33:44:55 PERMANENT
+proxies 0
+end
+";
+
+/// A line of every form that no script of one thread brings, and more.
+const FORMS_REPORT: &str = "\
+neigh 1 mode threads buckets 1 senders 1 window 50
+host dev eth0 lladdr 02:00:00:00:00:02 inet 10.0.0.2
+bucket 0 lines 10
+0 10 96 arp 10.0.0.1 00:11:22:33:44:55 make stale -> full 3
+1 11 33 send 10.0.0.1 -> waits
+  solicit ffffffffffff020000000002080600010800060400010200000000020a0000020000000000000a000001
+  wait 33
+2 12 128 na fe80::9 - r-o -> ignored
+3 1011 - timer 10.0.0.1 -> -
+  solicit ffffffffffff020000000002080600010800060400010200000000020a0000020000000000000a000001
+4 1012 65 send 10.0.0.3 -> full 2
+  drop 65 tablefull
+5 1013 160 show -> counted 1
+  entry 10.0.0.1 dev eth0 INCOMPLETE
+6 1014 - sweep -> -
+7 1015 - collect 10.0.0.1 -> -
+  drop 33 removed
+8 1016 192 ns 10.0.0.1 00:11:22:33:44:55 -> done
+9 1017 97 send 10.0.0.1 -> sent
+  tx 97 00112233445502000000000208004500
+host lines 4
+1 0 frame arp proxied tx ab op 0 2 done
+2 5 frame ndbad3 proxyfull
+3 6 proxy exists
+- 7 answer 0102
+sender 1 items 3
+1 5 fast 2 00112233445502000000000208004500
+2 5 suspect 3 0 noprobes
+3 5 again 1/2 3/4 5/6 7/8 1 waits dropping 33
+marks 2
+mark 50 1
+mark end 10
+fates sent 1 fast 1 dropped 2 waiting 0
+table 1
+10.0.0.1 dev eth0 lladdr 00:11:22:33:44:55 DELAY
+proxies 1
+fe80::9 dev eth0 proxy
+end
+";
 
 fn bytes(alloc: Global, bytes: &[u8]) -> Result<Bytes, AllocError> {
     Ok(Items::from_vec(Vec::from_slice(alloc, bytes)?))
@@ -48,35 +105,242 @@ fn own(at: u64, id: u64, op: Op) -> Line {
     }
 }
 
-/// A packet of the bytes 45 00 to 10.0.0.1 at 5.
-fn packet(alloc: Global) -> Result<SendItem, AllocError> {
-    Ok(SendItem {
-        at: Moment(5),
-        key: ONE,
-        payload: bytes(alloc, &[0x45, 0x00])?,
-    })
+fn bare(at: u64, op: Op) -> Line {
+    Line {
+        at: Moment(at),
+        id: None,
+        op,
+        full: None,
+    }
 }
 
-fn plan(alloc: Global, host: Host) -> Result<Plan, AllocError> {
+fn full(line: Line, seen: u32) -> Line {
+    Line {
+        full: Some(seen),
+        ..line
+    }
+}
+
+/// So many packets of the bytes 45 00 to 10.0.0.1 at 5.
+fn packets(alloc: Global, count: usize) -> Result<Items<SendItem>, AllocError> {
     let mut items = Items::new(alloc);
-    items.push(packet(alloc)?)?;
+    for _ in 0..count {
+        items.push(SendItem {
+            at: Moment(5),
+            key: ONE,
+            payload: bytes(alloc, &[0x45, 0x00])?,
+        })?;
+    }
+    Ok(items)
+}
+
+fn plan(
+    alloc: Global,
+    host: Host,
+    packets: Items<SendItem>,
+    control: Items<ControlItem>,
+) -> Result<Plan, AllocError>
+    ensures { IfOk result (λ plan. InRange plan.params) }
+{
     let mut senders = Items::new(alloc);
-    senders.push(items)?;
+    senders.push(packets)?;
     Ok(Plan {
         host,
         params: Params::DEFAULT,
         buckets: 1,
         window: 50,
-        control: Items::new(alloc),
+        control,
         senders,
     })
 }
 
-/// A run with the plan, and with nothing else.
-fn run(alloc: Global, host: Host) -> Result<Run, AllocError> {
+fn packet_lines(alloc: Global) -> Result<Items<Line>, AllocError> {
+    let add = Op::Add {
+        key: ONE,
+        mac: Some(A),
+        nud: Nud::Permanent,
+    };
+    let mut lines = Items::new(alloc);
+    lines.push(own(0, 32, add))?;
+    lines.push(own(5, 33, Op::Send { key: ONE }))?;
+    Ok(lines)
+}
+
+fn first_forms(lines: &mut Items<Line>) -> Result<(), AllocError> {
+    let arp = Op::Arp {
+        key: ONE,
+        mac: A,
+        make: true,
+        solicited: false,
+    };
+    let na = Op::Na {
+        key: LINK_LOCAL,
+        mac: None,
+        router: true,
+        solicited: false,
+        overrides: true,
+    };
+    lines.push(full(own(10, 96, arp), 3))?;
+    lines.push(own(11, 33, Op::Send { key: ONE }))?;
+    lines.push(own(12, 128, na))?;
+    lines.push(bare(1011, Op::Timer { key: ONE }))?;
+    lines.push(full(own(1012, 65, Op::Send { key: THREE }), 2))
+}
+
+fn last_forms(lines: &mut Items<Line>) -> Result<(), AllocError> {
+    lines.push(own(1013, 160, Op::Show))?;
+    lines.push(bare(1014, Op::Sweep))?;
+    lines.push(bare(1015, Op::Collect { key: ONE }))?;
+    lines.push(own(1016, 192, Op::Ns { key: ONE, mac: A }))?;
+    lines.push(own(1017, 97, Op::Send { key: ONE }))
+}
+
+fn form_lines(alloc: Global) -> Result<Items<Line>, AllocError> {
+    let mut lines = Items::new(alloc);
+    first_forms(&mut lines)?;
+    last_forms(&mut lines)?;
+    Ok(lines)
+}
+
+fn placed(place: u32) -> Placed {
+    Placed {
+        bucket: 0,
+        place,
+        reply: Reply::Done,
+    }
+}
+
+fn packet_host_lines(alloc: Global) -> Result<Items<HostLine>, AllocError> {
+    let mut ops = Items::new(alloc);
+    ops.push(placed(0))?;
+    let mut lines = Items::new(alloc);
+    lines.push(HostLine::Neigh {
+        n: 1,
+        at: Moment(0),
+        ops,
+    })?;
+    Ok(lines)
+}
+
+fn form_host_lines(alloc: Global) -> Result<Items<HostLine>, AllocError> {
+    let mut lines = Items::new(alloc);
+    lines.push(HostLine::Frame {
+        n: 1,
+        at: Moment(0),
+        class: Class::Arp,
+        queued: Some(true),
+        tx: Some(bytes(alloc, &[0xab])?),
+        op: Some(placed(2)),
+    })?;
+    lines.push(HostLine::Frame {
+        n: 2,
+        at: Moment(5),
+        class: Class::NdBad(3),
+        queued: Some(false),
+        tx: None,
+        op: None,
+    })?;
+    lines.push(HostLine::Proxy {
+        n: 3,
+        at: Moment(6),
+        reply: Reply::Exists,
+    })?;
+    let frame = bytes(alloc, &[1, 2])?;
+    lines.push(HostLine::Answer {
+        due: Moment(7),
+        frame,
+    })?;
+    Ok(lines)
+}
+
+fn slow(why: Why, place: u32, reply: Reply) -> Outcome {
+    Outcome::Slow { why, place, reply }
+}
+
+fn form_log(alloc: Global) -> Result<Log, AllocError> {
+    let mut log = Items::new(alloc);
+    log.push(Outcome::Fast {
+        number: 2,
+        header: [0, 0x11, 0x22, 0x33, 0x44, 0x55, 2, 0, 0, 0, 0, 2, 8, 0],
+    })?;
+    log.push(slow(Why::Suspect { number: 3 }, 0, Reply::NoProbes))?;
+    let why = Why::Again {
+        tries: [(1, 2), (3, 4), (5, 6), (7, 8)],
+    };
+    let waits = Reply::Waits {
+        dropped: Some(OpId(33)),
+    };
+    log.push(slow(why, 1, waits))?;
+    Ok(log)
+}
+
+fn form_control(alloc: Global) -> Result<Items<ControlItem>, AllocError> {
+    let mut control = Items::new(alloc);
+    for (key, add) in [(NINE, true), (LINK_LOCAL, true), (NINE, false)] {
+        control.push(ControlItem::Proxy {
+            at: Moment(0),
+            key,
+            add,
+        })?;
+    }
+    Ok(control)
+}
+
+fn mark(alloc: Global, start: Option<Moment>, length: u32) -> Result<Mark, AllocError> {
+    let mut lengths = Items::new(alloc);
+    lengths.push(length)?;
+    Ok(Mark { start, lengths })
+}
+
+/// A list of one.
+fn one<T: Drop>(alloc: Global, item: T) -> Result<Items<T>, AllocError> {
+    let mut items = Items::new(alloc);
+    items.push(item)?;
+    Ok(items)
+}
+
+fn packet_run(alloc: Global, host: Host) -> Result<Run, AllocError>
+    ensures { IfOk result (λ run. InRange run.plan.params) }
+{
+    let plan = plan(alloc, host, packets(alloc, 1)?, Items::new(alloc))?;
+    let log = one(alloc, slow(Why::Inline, 1, Reply::Sent))?;
     Ok(Run {
         mode: Mode::Inline,
-        plan: plan(alloc, host)?,
+        plan,
+        journals: one(alloc, packet_lines(alloc)?)?,
+        host_lines: packet_host_lines(alloc)?,
+        logs: one(alloc, log)?,
+        marks: Items::new(alloc),
+    })
+}
+
+fn form_run(alloc: Global, host: Host) -> Result<Run, AllocError>
+    ensures { IfOk result (λ run. InRange run.plan.params) }
+{
+    let plan = plan(alloc, host, packets(alloc, 3)?, form_control(alloc)?)?;
+    let mut marks = Items::new(alloc);
+    marks.push(mark(alloc, Some(Moment(50)), 1)?)?;
+    marks.push(mark(alloc, None, 10)?)?;
+    Ok(Run {
+        mode: Mode::Threads,
+        plan,
+        journals: one(alloc, form_lines(alloc)?)?,
+        host_lines: form_host_lines(alloc)?,
+        logs: one(alloc, form_log(alloc)?)?,
+        marks,
+    })
+}
+
+/// A run without buckets and senders, of which nothing came.
+fn empty_run(alloc: Global, host: Host) -> Result<Run, AllocError>
+    ensures params { IfOk result (λ run. InRange run.plan.params) }
+    ensures journals { IfOk result (λ run. run.journals ≡ []) }
+    ensures logs { IfOk result (λ run. run.logs ≡ []) }
+{
+    let plan = plan(alloc, host, Items::new(alloc), Items::new(alloc))?;
+    Ok(Run {
+        mode: Mode::Inline,
+        plan,
         journals: Items::new(alloc),
         host_lines: Items::new(alloc),
         logs: Items::new(alloc),
@@ -84,218 +348,48 @@ fn run(alloc: Global, host: Host) -> Result<Run, AllocError> {
     })
 }
 
-/// The journal of one permanent entry and a packet to it.
-fn write_journal(report: &mut String, plan: &Plan) -> Result<(), AllocError> {
-    let add = Op::Add {
-        key: ONE,
-        mac: Some(A),
-        nud: Nud::Permanent,
+/// The text of a run of one bucket, if the machine can step over its journal.
+fn told(alloc: Global, run: &Run) -> Result<Option<Bytes>, AllocError>
+    requires { InRange run.now.plan.params }
+{
+    let [journal] = run.journals.as_slice() else {
+        return Ok(None);
     };
-    write_bucket(report, 0, 2)?;
-    write_line(report, 0, &own(0, 32, add), Some(Reply::Done))?;
-    let send = own(5, 33, Op::Send { key: ONE });
-    write_line(report, 1, &send, Some(Reply::Sent))?;
-    write_acts(report, plan, &[Act::Transmit(OpId(33), A)])
-}
-
-fn write_items(alloc: Global, report: &mut String, plan: &Plan) -> Result<(), AllocError> {
-    let placed = Placed {
-        bucket: 0,
-        place: 0,
-        reply: Reply::Done,
-    };
-    let mut ops = Items::new(alloc);
-    ops.push(placed)?;
-    let line = HostLine::Neigh {
-        n: 1,
-        at: Moment(0),
-        ops,
-    };
-    write_host_journal(report, &[line])?;
-    let mut log = Items::new(alloc);
-    log.push(Outcome::Slow {
-        why: Why::Inline,
-        place: 1,
-        reply: Reply::Sent,
-    })?;
-    write_logs(report, plan.senders.as_slice(), &[log])
-}
-
-fn write_rest(alloc: Global, report: &mut String, plan: &Plan) -> Result<(), AllocError> {
-    let entry = Entry {
-        nud: Nud::Permanent,
-        mac: Some(A),
-        ..Entry::made(Moment(0))
-    };
-    write_marks(report, &[])?;
-    write_fates(report, 1, 0, 0, 0)?;
-    write_count(report, "table", 1)?;
-    write_entry(report, &plan.host, &ONE, &entry)?;
-    write_proxies(alloc, report, &plan.host, plan.control.as_slice())?;
-    write_end(report)
-}
-
-fn packet_report(alloc: Global, host: Host) -> Result<String, AllocError> {
-    let run = run(alloc, host)?;
-    let mut report = String::new(alloc);
-    write_head(&mut report, &run)?;
-    write_host(&mut report, &run.plan.host)?;
-    write_journal(&mut report, &run.plan)?;
-    write_items(alloc, &mut report, &run.plan)?;
-    write_rest(alloc, &mut report, &run.plan)?;
-    Ok(report)
-}
-
-fn write_waits(report: &mut String, plan: &Plan) -> Result<(), AllocError> {
-    let waits = Reply::Waits {
-        dropped: Some(OpId(33)),
-    };
-    let send = own(13, 65, Op::Send { key: ONE });
-    let acts = [Act::Wait(OpId(65)), Act::Drop(OpId(33), Cause::QueueFull)];
-    write_line(report, 3, &send, Some(waits))?;
-    write_acts(report, plan, &acts)
-}
-
-fn write_shown(report: &mut String, host: &Host) -> Result<(), AllocError> {
-    let failed = Entry {
-        nud: Nud::Failed,
-        router: true,
-        ..Entry::made(Moment(0))
-    };
-    let show = own(14, 160, Op::Show);
-    write_line(report, 4, &show, Some(Reply::Counted(1)))?;
-    write_listed(report, host, &ONE, &failed)
-}
-
-fn journal_lines(alloc: Global, host: Host) -> Result<String, AllocError> {
-    let plan = plan(alloc, host)?;
-    let mut report = String::new(alloc);
-    let arp = Op::Arp {
-        key: ONE,
-        mac: A,
-        make: true,
-        solicited: false,
-    };
-    let full = Reply::Full { seen: 3 };
-    write_line(&mut report, 0, &own(10, 96, arp), Some(full))?;
-    let timer = Line {
-        id: None,
-        ..own(11, 0, Op::Timer { key: ONE })
-    };
-    write_line(&mut report, 1, &timer, None)?;
-    let na = Op::Na {
-        key: Key::V6(0xfe80_0000_0000_0000_0000_0000_0000_0001),
-        mac: None,
-        router: true,
-        solicited: false,
-        overrides: true,
-    };
-    write_line(&mut report, 2, &own(12, 128, na), Some(Reply::Ignored))?;
-    write_waits(&mut report, &plan)?;
-    write_shown(&mut report, &host)?;
-    Ok(report)
-}
-
-fn write_frames(alloc: Global, report: &mut String) -> Result<(), AllocError> {
-    let placed = Placed {
-        bucket: 0,
-        place: 2,
-        reply: Reply::Done,
-    };
-    let lines = [
-        HostLine::Frame {
-            n: 1,
-            at: Moment(0),
-            class: Class::Arp,
-            queued: Some(true),
-            tx: Some(bytes(alloc, &[0xab])?),
-            op: Some(placed),
-        },
-        HostLine::Frame {
-            n: 2,
-            at: Moment(5),
-            class: Class::NdBad(3),
-            queued: Some(false),
-            tx: None,
-            op: None,
-        },
-        HostLine::Proxy {
-            n: 3,
-            at: Moment(6),
-            reply: Reply::Exists,
-        },
-        HostLine::Answer {
-            due: Moment(7),
-            frame: bytes(alloc, &[1, 2])?,
-        },
-    ];
-    write_host_journal(report, &lines)
-}
-
-fn write_two_marks(alloc: Global, report: &mut String) -> Result<(), AllocError> {
-    let marks = [
-        Mark {
-            start: Some(Moment(50)),
-            lengths: Items::from_vec(Vec::from_slice(alloc, &[1, 2])?),
-        },
-        Mark {
-            start: None,
-            lengths: Items::from_vec(Vec::from_slice(alloc, &[3, 4])?),
-        },
-    ];
-    write_marks(report, &marks)
-}
-
-fn write_two_outcomes(alloc: Global, report: &mut String) -> Result<(), AllocError> {
-    let mut items = Items::new(alloc);
-    items.push(packet(alloc)?)?;
-    items.push(SendItem {
-        at: Moment(6),
-        ..packet(alloc)?
-    })?;
-    let mut log = Items::new(alloc);
-    log.push(Outcome::Slow {
-        why: Why::Suspect { number: 3 },
-        place: 0,
-        reply: Reply::NoProbes,
-    })?;
-    log.push(Outcome::Slow {
-        why: Why::Again {
-            tries: [(1, 2), (3, 4), (5, 6), (7, 8)],
-        },
-        place: 1,
-        reply: Reply::Waits { dropped: None },
-    })?;
-    write_logs(report, &[items], &[log])
-}
-
-fn host_lines(alloc: Global) -> Result<String, AllocError> {
-    let mut report = String::new(alloc);
-    write_frames(alloc, &mut report)?;
-    write_two_marks(alloc, &mut report)?;
-    write_two_outcomes(alloc, &mut report)?;
-    Ok(report)
+    if is_evaluable(alloc, &run.plan.params, journal.as_slice())? {
+        Ok(Some(text(alloc, run)?))
+    } else {
+        Ok(None)
+    }
 }
 
 #[test]
 fn permanent_entry_and_packet(rt: HostRuntime) -> Result<(), Fail> {
     let host = host().expect(&rt, "a name");
-    let report = packet_report(rt.alloc(), host)?;
-    assert_eq!(rt; report.as_str(), PACKET_REPORT);
+    let alloc = rt.alloc();
+    let report = told(alloc, &packet_run(alloc, host)?)?.expect(&rt, "a run");
+    assert_eq!(rt; report.as_slice(), PACKET_REPORT.as_bytes());
     Ok(())
 }
 
 #[test]
-fn forms_of_journal_lines(rt: HostRuntime) -> Result<(), Fail> {
+fn lines_of_every_form(rt: HostRuntime) -> Result<(), Fail> {
     let host = host().expect(&rt, "a name");
-    let report = journal_lines(rt.alloc(), host)?;
-    assert_eq!(rt; report.as_str(), JOURNAL_LINES);
+    let alloc = rt.alloc();
+    let report = told(alloc, &form_run(alloc, host)?)?.expect(&rt, "a run");
+    assert_eq!(rt; report.as_slice(), FORMS_REPORT.as_bytes());
     Ok(())
 }
 
 #[test]
-fn forms_of_host_lines_marks_and_outcomes(rt: HostRuntime) -> Result<(), Fail> {
-    let report = host_lines(rt.alloc())?;
-    assert_eq!(rt; report.as_str(), HOST_LINES);
+fn nothing_became_of_no_packets(rt: HostRuntime) -> Result<(), Fail> {
+    let host = host().expect(&rt, "a name");
+    let alloc = rt.alloc();
+    let none = Fates {
+        sent: 0,
+        fast: 0,
+        dropped: 0,
+        waiting: 0,
+    };
+    assert_eq!(rt; fates(alloc, &empty_run(alloc, host)?)?, none);
     Ok(())
 }

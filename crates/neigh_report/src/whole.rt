@@ -3,38 +3,49 @@ ghost use Rattle.std.specs.Prelude.{◌≡◌, ◌++◌, ◌∷◌, [], codes, l
 ghost use Rattle.std.specs.List.{AllByRecursion, flat_map};
 ghost use Rattle.text_codes.specs.Lines.{text_of, line_text};
 ghost use Rattle.nb_base.specs.Params.{InRange};
+ghost use Rattle.nb_journal.specs.Evaluated.{IsShort, IsStepped};
 ghost use Rattle.neigh_run.specs.Report as report_of;
 ghost use Rattle.neigh_report.specs.Left as left;
 
 use crate::behind::{Behind, write_buckets};
 use crate::below::write_entries;
-use crate::fates::{count_all_fast, count_dropped, count_sent, count_waiting};
+use crate::counts::{count_all_fast, count_dropped, count_present, count_sent, count_waiting};
 use crate::head::{write_count, write_end, write_fates, write_head, write_host, write_marks};
 use crate::host_journal::write_host_journal;
 use crate::logs::write_logs;
 use crate::proxies::write_proxies;
-use crate::slot::Slot;
-use crate::table::count_present;
+use journal_fold::Fold;
 use nb_base::{Bytes, Host, Items};
 use neigh_run::Run;
 use std::alloc::{AllocError, Global};
 
-fn write_table(report: &mut String, host: &Host, slots: &[Slot]) -> Result<(), AllocError>
-    ensures { OnOk result (string_bytes report.new ≡ string_bytes report.old ++ text_of (report_of.counted (codes "table" ∷ []) (left.entries host.now slots.now))) }
+/// The present entries of all buckets.
+fn write_all_entries(report: &mut String, host: &Host, folds: &[Fold]) -> Result<(), AllocError>
+    ensures { OnOk result (string_bytes report.new ≡ string_bytes report.old ++ text_of (left.entries host.now folds.now)) }
 {
-    write_count(report, "table", count_present(slots))?;
-    write_entries(report, host, slots)
+    for number in 0..folds.len() {
+        write_entries(report, host, &folds[number])?;
+    }
+    Ok(())
+}
+
+fn write_table(report: &mut String, host: &Host, folds: &[Fold]) -> Result<(), AllocError>
+    ensures { OnOk result (string_bytes report.new ≡ string_bytes report.old ++ text_of (report_of.counted (codes "table" ∷ []) (left.entries host.now folds.now))) }
+{
+    write_count(report, "table", count_present(folds))?;
+    write_all_entries(report, host, folds)
 }
 
 /// What stands before the counts: the head, the host, and what was done.
 fn write_top(alloc: Global, report: &mut String, run: &Run) -> Result<Behind, AllocError>
     requires params { InRange run.now.plan.params }
-    requires few { AllByRecursion left.IsShort run.now.journals }
-    requires steps { AllByRecursion (left.IsStepped run.now.plan.params) run.now.journals }
+    requires few { AllByRecursion IsShort run.now.journals }
+    requires steps { AllByRecursion (IsStepped run.now.plan.params) run.now.journals }
     ensures written { OnOk result (string_bytes report.new ≡ string_bytes report.old ++ text_of (left.top run.now)) }
     ensures acts { IfOk result (λ behind. behind.acts.items ≡ report_of.all_acts run.now) }
-    ensures entries { IfOk result (λ behind. left.entries run.now.plan.host behind.slots.items ≡ report_of.table run.now) }
-    ensures waits { IfOk result (λ behind. left.waits behind.slots.items ≡ flat_map (report_of.waiting_after run.now.plan) run.now.journals) }
+    ensures entries { IfOk result (λ behind. left.entries run.now.plan.host behind.folds.items ≡ report_of.table run.now) }
+    ensures waits { IfOk result (λ behind. left.waits behind.folds.items ≡ flat_map (report_of.waiting_after run.now.plan) run.now.journals) }
+    ensures short { IfOk result (λ behind. AllByRecursion left.IsShortFold behind.folds.items) }
 {
     write_head(report, run)?;
     write_host(report, &run.plan.host)?;
@@ -53,16 +64,17 @@ fn write_bottom(
     behind: &Behind,
 ) -> Result<(), AllocError>
     requires acts { behind.now.acts.items ≡ report_of.all_acts run.now }
-    requires entries { left.entries run.now.plan.host behind.now.slots.items ≡ report_of.table run.now }
-    requires waits { left.waits behind.now.slots.items ≡ flat_map (report_of.waiting_after run.now.plan) run.now.journals }
+    requires entries { left.entries run.now.plan.host behind.now.folds.items ≡ report_of.table run.now }
+    requires waits { left.waits behind.now.folds.items ≡ flat_map (report_of.waiting_after run.now.plan) run.now.journals }
+    requires short { AllByRecursion left.IsShortFold behind.now.folds.items }
     ensures { OnOk result (string_bytes report.new ≡ string_bytes report.old ++ text_of (left.bottom run.now)) }
 {
     let sent = count_sent(&behind.acts) as u128;
     let fast = count_all_fast(run.logs.as_slice());
     let dropped = count_dropped(&behind.acts) as u128;
-    let waiting = count_waiting(&behind.slots);
+    let waiting = count_waiting(&behind.folds);
     write_fates(report, sent, fast, dropped, waiting)?;
-    write_table(report, &run.plan.host, &behind.slots)?;
+    write_table(report, &run.plan.host, &behind.folds)?;
     write_proxies(alloc, report, &run.plan.host, run.plan.control.as_slice())?;
     write_end(report)
 }
@@ -73,8 +85,8 @@ fn write_bottom(
 /// Want of memory.
 pub fn text(alloc: Global, run: &Run) -> Result<Bytes, AllocError>
     requires params { InRange run.now.plan.params }
-    requires few { AllByRecursion left.IsShort run.now.journals }
-    requires steps { AllByRecursion (left.IsStepped run.now.plan.params) run.now.journals }
+    requires few { AllByRecursion IsShort run.now.journals }
+    requires steps { AllByRecursion (IsStepped run.now.plan.params) run.now.journals }
     ensures { IfOk result (λ text. text ≡ report_of.report_text run.now) }
 {
     let mut report = String::new(alloc);

@@ -17,6 +17,7 @@ loop-number-preserved c =
     rw (taken c.args.journals.now c.loop-number.number journal (omega arith) is) (record {
       written = buckets_more c.args.plan.now past journal c.loop-number.number (string_bytes c.args.report.now) (string_bytes c.loop-number.report) (string_bytes c.write_one_bucket.new.report) (sym (length-take-le c.loop-number.number c.args.journals.now (omega arith))) c.loop-number.invariant.written c.in_ok-write_one_bucket.ensures.written;
       acts = flat_more (journal_acts c.args.plan.now []) past journal c.loop-number.behind.acts.items c.write_one_bucket.new.behind.acts.items c.loop-number.invariant.acts c.in_ok-write_one_bucket.ensures.acts;
-      entries = flat_more (entries_after c.args.plan.now.host c.args.plan.now.params) past journal (entries c.args.plan.now.host c.loop-number.behind.slots.items) (entries c.args.plan.now.host c.write_one_bucket.new.behind.slots.items) c.loop-number.invariant.entries c.in_ok-write_one_bucket.ensures.entries;
-      waits = flat_more (waiting_after c.args.plan.now) past journal (waits c.loop-number.behind.slots.items) (waits c.write_one_bucket.new.behind.slots.items) c.loop-number.invariant.waits c.in_ok-write_one_bucket.ensures.waits;
+      entries = flat_more (entries_after c.args.plan.now.host c.args.plan.now.params) past journal (entries c.args.plan.now.host c.loop-number.behind.folds.items) (entries c.args.plan.now.host c.write_one_bucket.new.behind.folds.items) c.loop-number.invariant.entries c.in_ok-write_one_bucket.ensures.entries;
+      waits = flat_more (waiting_after c.args.plan.now) past journal (waits c.loop-number.behind.folds.items) (waits c.write_one_bucket.new.behind.folds.items) c.loop-number.invariant.waits c.in_ok-write_one_bucket.ensures.waits;
+      few = c.in_ok-write_one_bucket.ensures.few c.loop-number.invariant.few;
     })

@@ -6,4 +6,4 @@ use Rattle.neigh_run.specs.Report.{act_lines}
 use Rattle.neigh_report.proofs.journal_lines.write_acts.Given as goal
 
 abbrev pub invariant-loop-act : goal.invariant-loop-act
-invariant-loop-act l = string_bytes l.report ≡ string_bytes l.fn.report ++ text_of (flat_map (act_lines l.plan) (take l.act-index l.acts))
+invariant-loop-act l = string_bytes l.report ≡ string_bytes l.fn.report ++ text_of (flat_map (act_lines l.plan l.key) (take l.act-index l.acts))

@@ -1,0 +1,9 @@
+use Rattle.std.proofs.Common.{◌≡◌, ◌++◌, take}
+use Rattle.std.specs.Prelude.{string_bytes, map}
+use Rattle.text_codes.specs.Lines.{text_of}
+use Rattle.nb_journal.specs.Evaluated.{state_in}
+use Rattle.neigh_report.specs.Left.{rows}
+use Rattle.neigh_report.proofs.below.write_keys.Given as goal
+
+abbrev pub invariant-loop-rank : goal.invariant-loop-rank
+invariant-loop-rank l = string_bytes l.report ≡ string_bytes l.fn.report ++ text_of (rows l.host (take l.rank l.known) (map state_in (take l.rank l.kept)))

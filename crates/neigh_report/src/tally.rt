@@ -1,0 +1,107 @@
+//! What became of a run's packets, without the run's text.
+ghost use Rattle.std.specs.Prelude.{◌≡◌, ◌<◌, ◌+◌, ◌^◌, ◌++◌, [], false, IfOk, OnOk};
+ghost use Rattle.std.specs.List.{flat_map, list_any, AllByRecursion};
+ghost use Rattle.nb_base.specs.Params.{InRange};
+ghost use Rattle.nb_journal.specs.Evaluated.{IsShort, IsStepped};
+ghost use Rattle.neigh_run.specs.Inline.{IsInlineRun};
+ghost use Rattle.neigh_run.specs.Merged.{packet_count, is_sending};
+ghost use Rattle.neigh_run.specs.Report as report_of;
+ghost use Rattle.neigh_report.specs.Left as left;
+
+use crate::behind::Behind;
+use crate::counts::{Fates, count_all_fast, count_dropped, count_sent, count_waiting};
+use journal_fold::Fold;
+use nb_base::{Journal, Line, Plan};
+use neigh_run::Run;
+use nud_machine::{Act, Acts};
+use std::alloc::{AllocError, Global};
+
+/// Takes a journal's lines. Their acts come behind the others.
+fn take_journal(
+    alloc: Global,
+    plan: &Plan,
+    lines: &[Line],
+    acts: &mut Vec<Act>,
+) -> Result<Fold, AllocError>
+    requires params { InRange plan.now.params }
+    requires few { IsShort lines.now }
+    requires steps { IsStepped plan.now.params lines.now }
+    ensures lines { IfOk result (λ fold. fold.lines ≡ lines.now) }
+    ensures params { IfOk result (λ fold. fold.params ≡ plan.now.params) }
+    ensures acts { OnOk result (acts.new.items ≡ acts.old.items ++ report_of.journal_acts plan.now [] lines.now) }
+{
+    let mut fold = Fold::new(alloc, &plan.params)?;
+    let mut room = Acts::new(alloc)?;
+    for line in lines {
+        fold.take_with_acts(alloc, line, &mut room, acts)?;
+    }
+    Ok(fold)
+}
+
+/// Takes a bucket's journal. Its fold and its acts come behind the others.
+fn take_one_bucket(
+    alloc: Global,
+    plan: &Plan,
+    lines: &[Line],
+    behind: &mut Behind,
+) -> Result<(), AllocError>
+    requires params { InRange plan.now.params }
+    requires few { IsShort lines.now }
+    requires steps { IsStepped plan.now.params lines.now }
+    ensures acts { OnOk result (behind.new.acts.items ≡ behind.old.acts.items ++ report_of.journal_acts plan.now [] lines.now) }
+    ensures waits { OnOk result (left.waits behind.new.folds.items ≡ left.waits behind.old.folds.items ++ report_of.waiting_after plan.now lines.now) }
+    ensures few { AllByRecursion left.IsShortFold behind.old.folds.items → OnOk result (AllByRecursion left.IsShortFold behind.new.folds.items) }
+{
+    let fold = take_journal(alloc, plan, lines, &mut behind.acts)?;
+    behind.folds.push(fold)?;
+    Ok(())
+}
+
+/// Takes the journals of all buckets.
+fn take_buckets(alloc: Global, plan: &Plan, journals: &[Journal]) -> Result<Behind, AllocError>
+    requires params { InRange plan.now.params }
+    requires few { AllByRecursion IsShort journals.now }
+    requires steps { AllByRecursion (IsStepped plan.now.params) journals.now }
+    ensures acts { IfOk result (λ behind. behind.acts.items ≡ flat_map (report_of.journal_acts plan.now []) journals.now) }
+    ensures waits { IfOk result (λ behind. left.waits behind.folds.items ≡ flat_map (report_of.waiting_after plan.now) journals.now) }
+    ensures few { IfOk result (λ behind. AllByRecursion left.IsShortFold behind.folds.items) }
+{
+    let mut behind = Behind {
+        folds: Vec::new(alloc),
+        acts: Vec::new(alloc),
+    };
+    for number in 0..journals.len() {
+        take_one_bucket(alloc, plan, journals[number].as_slice(), &mut behind)?;
+    }
+    Ok(behind)
+}
+
+/// What became of the packets of a run, which are fewer than 2^32; of an inline run whose participant 0 sends none they are together the packets of its plan.
+/// As for the text, the plan's parameters are in their ranges, each journal has fewer than 2^32 lines, and the machine can step over each of them.
+///
+/// # Errors
+/// Want of memory.
+pub fn fates(alloc: Global, run: &Run) -> Result<Fates, AllocError>
+    requires params { InRange run.now.plan.params }
+    requires few { AllByRecursion IsShort run.now.journals }
+    requires steps { AllByRecursion (IsStepped run.now.plan.params) run.now.journals }
+    requires packets { report_of.sent_count run.now + report_of.fast_count run.now + report_of.dropped_count run.now + report_of.waiting_count run.now < 2 ^ 32 }
+    ensures sent { IfOk result (λ fates. fates.sent ≡ report_of.sent_count run.now) }
+    ensures fast { IfOk result (λ fates. fates.fast ≡ report_of.fast_count run.now) }
+    ensures dropped { IfOk result (λ fates. fates.dropped ≡ report_of.dropped_count run.now) }
+    ensures waiting { IfOk result (λ fates. fates.waiting ≡ report_of.waiting_count run.now) }
+    ensures all { 0 < run.now.plan.buckets → list_any is_sending run.now.plan.control ≡ false → IsInlineRun run.now.plan run.now
+        → IfOk result (λ fates. fates.sent + fates.fast + fates.dropped + fates.waiting ≡ packet_count run.now.plan) }
+{
+    let behind = take_buckets(alloc, &run.plan, run.journals.as_slice())?;
+    let sent = count_sent(&behind.acts);
+    let fast = count_all_fast(run.logs.as_slice());
+    let dropped = count_dropped(&behind.acts);
+    let waiting = count_waiting(&behind.folds);
+    Ok(Fates {
+        sent: sent as u32,
+        fast: fast as u32,
+        dropped: dropped as u32,
+        waiting: waiting as u32,
+    })
+}
