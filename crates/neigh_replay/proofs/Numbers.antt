@@ -1,17 +1,19 @@
 -- The ids of a plan's operations: each stands once, and each tells its participant.
-use Rattle.std.proofs.Common.{◌≡◌, ⊎_elim, ℕ, ◌+◌, ◌*◌, ◌<◌, ◌≤◌, Bool, true, false, if◌then◌else◌, List, [], ◌∷◌, ◌++◌, length, refl, sym, ◌∙◌, ap, subst, arith, append_assoc, append-nil}
+use Rattle.std.proofs.Common.{◌≡◌, ℕ, ◌+◌, ◌*◌, ◌<◌, ◌≤◌, Bool, true, false, if◌then◌else◌, List, [], ◌∷◌, ◌++◌, length, refl, sym, ◌∙◌, ap, subst, arith, append_assoc, append-nil}
 use Rattle.std.specs.Prelude.{filter, ◌==◌, ◌%◌}
 use Rattle.std.proofs.lemmas.Bool.{eqb-true, eq-eqb, true≢false}
 use Rattle.std.proofs.lemmas.Nat.{mod-mul-add}
+use Rattle.std.proofs.lemmas.List.{length-map}
 use Rattle.std.proofs.lemmas.List.Elements.{filter-append}
 use Rattle.nb_base.specs.declared.time.OpId.{OpId}
-use Rattle.nb_base.specs.declared.op.Op.{Op}
 use Rattle.nb_base.specs.declared.op.Op.TheVariants as op
+use Rattle.nb_base.specs.declared.plan.Plan.{Plan}
 use Rattle.nb_base.specs.declared.plan.SendItem.{SendItem}
 use Rattle.nb_base.specs.declared.plan.ControlItem.{ControlItem}
 use Rattle.nb_base.specs.declared.plan.ControlItem.TheVariants as control
 use Rattle.neigh_run.specs.Merged.{Entered, id_for, control_ops, sender_ops, senders_ops}
-use Rattle.neigh_replay.proofs.Orders.{count, count_append}
+use Rattle.neigh_run.specs.Plan.{AreLists, IsWithinLimits, send_at, control_at}
+use Rattle.neigh_replay.proofs.Orders.{Each, each_append, count, count_append}
 
 -- the operation has this id
 abbrev pub has_id : OpId → Entered → Bool
@@ -171,3 +173,48 @@ owns_from before p (items ∷ rest) within none = (own, subst (λ (xs : List Ent
 
 pub each_owns : (items : List ControlItem) (senders : List (List SendItem)) → length senders ≤ 16 → Owns (control_ops 1 items ++ senders_ops 1 senders) 1 senders
 each_owns items senders few = owns_from (control_ops 1 items) 1 senders (omega (arith, few)) (λ q le. control_by q 1 items (λ e. omega (arith, e, le)))
+
+-- ---- participant 0's are its own
+
+control_all : (n : ℕ) (items : List ControlItem) → filter (is_by 0) (control_ops n items) ≡ control_ops n items
+control_all n [] = refl
+control_all n (control.Neigh at o ∷ xs) = rw (eq-eqb ((32 * n + 0) % 32) 0 (by_participant n 0 (omega arith))) (ap (λ (ys : List Entered). record { at = at; id = id_for 0 n; op = o } ∷ ys) (control_all (n + 1) xs))
+control_all n (control.Frame at bytes ∷ xs) = control_all (n + 1) xs
+control_all n (control.Proxy at key add ∷ xs) = control_all (n + 1) xs
+
+pub control_owns : (items : List ControlItem) (senders : List (List SendItem)) → length senders ≤ 16 → filter (is_by 0) (control_ops 1 items ++ senders_ops 1 senders) ≡ control_ops 1 items
+control_owns items senders few =
+    filter-append (is_by 0) (control_ops 1 items) (senders_ops 1 senders)
+    ∙ ap (λ (xs : List Entered). xs ++ filter (is_by 0) (senders_ops 1 senders)) (control_all 1 items)
+    ∙ ap (λ (xs : List Entered). control_ops 1 items ++ xs) (none_behind 0 1 senders (omega (arith, few)) (omega arith))
+    ∙ append-nil (control_ops 1 items)
+
+-- ---- the ids are small
+
+-- the number of the operation's item is less than 2^32
+abbrev pub IsSmall : Entered → Type 0
+IsSmall x = x.id.0 < 137_438_953_472
+
+small_control : (n : ℕ) (items : List ControlItem) → n + length items ≤ 131_073 → Each IsSmall (control_ops n items)
+small_control n [] few = tt
+small_control n (control.Neigh at o ∷ xs) few = (omega (arith, few), small_control (n + 1) xs (omega (arith, few)))
+small_control n (control.Frame at bytes ∷ xs) few = small_control (n + 1) xs (omega (arith, few))
+small_control n (control.Proxy at key add ∷ xs) few = small_control (n + 1) xs (omega (arith, few))
+
+small_sender : (p n : ℕ) (items : List SendItem) → p ≤ 16 → n + length items ≤ 131_073 → Each IsSmall (sender_ops p n items)
+small_sender p n [] le few = tt
+small_sender p n (x ∷ xs) le few = (omega (arith, le, few), small_sender p (n + 1) xs le (omega (arith, few)))
+
+small_senders : (p : ℕ) (senders : List (List SendItem)) → p + length senders ≤ 17 → AreLists senders → Each IsSmall (senders_ops p senders)
+small_senders p [] few lists = tt
+small_senders p (items ∷ rest) few lists =
+    let long = lists.0.few in
+    let same = length-map items send_at in
+    each_append IsSmall (sender_ops p 1 items) (senders_ops (p + 1) rest) (small_sender p 1 items (omega (arith, few)) (omega (arith, long, same))) (small_senders (p + 1) rest (omega (arith, few)) lists.1)
+
+pub small_ids : (plan : Plan) → IsWithinLimits plan → Each IsSmall (control_ops 1 plan.control ++ senders_ops 1 plan.senders)
+small_ids plan within =
+    let few = within.control.few in
+    let same = length-map plan.control control_at in
+    let many = within.few in
+    each_append IsSmall (control_ops 1 plan.control) (senders_ops 1 plan.senders) (small_control 1 plan.control (omega (arith, few, same))) (small_senders 1 plan.senders (omega (arith, many)) within.senders)

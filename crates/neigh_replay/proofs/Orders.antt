@@ -2,12 +2,11 @@
 use Rattle.std.proofs.Common.{◌≡◌, ⊎_elim, ℕ, ◌+◌, ◌<◌, ◌≤◌, Bool, true, false, if◌then◌else◌, List, [], ◌∷◌, ◌++◌, length, map, refl, sym, ◌∙◌, ap, subst, arith}
 use Rattle.std.specs.Prelude.{filter, nat_le, fold}
 use Rattle.std.proofs.lemmas.Bool.{lt-leb, cases_lt, true≢false}
-use Rattle.nb_base.specs.declared.line.Line.{Line}
 use Rattle.nb_journal.proofs.Decides.{le_from, le_to}
 use Rattle.neigh_run.specs.Merged.{Entered, insert, by_moment}
 use Rattle.neigh_run.specs.Inline.{entered_line}
 use Rattle.neigh_run.specs.Plan.{RisesFrom}
-use Rattle.neigh_replay.specs.Merging.{line_of, lines_of, line_at, insert_lines}
+use Rattle.neigh_replay.specs.Merging.{lines_of, line_at}
 use Rattle.neigh_replay.proofs.Planned.{rises-lower}
 use Rattle.neigh_replay.proofs.Merges.{insert_lines-sorted, lines_of-by_moment}
 
@@ -144,7 +143,7 @@ pub entered_again : (xs : List Entered) → map entered_line (lines_of xs) ≡ x
 entered_again [] = refl
 entered_again (x ∷ xs) = ap (λ (ys : List Entered). x ∷ ys) (entered_again xs)
 
-line_moments : (xs : List Entered) → map line_at (lines_of xs) ≡ map entered_at xs
+pub line_moments : (xs : List Entered) → map line_at (lines_of xs) ≡ map entered_at xs
 line_moments [] = refl
 line_moments (x ∷ xs) = ap (λ (ys : List ℕ). x.at ∷ ys) (line_moments xs)
 

@@ -124,13 +124,13 @@ merged_last plan i all =
 
 -- ---- how many lines there are
 
-control_long : (n : ℕ) (items : List ControlItem) → length (control_ops n items) ≤ length items
+pub control_long : (n : ℕ) (items : List ControlItem) → length (control_ops n items) ≤ length items
 control_long n [] = omega arith
 control_long n (control.Neigh at o ∷ items) = let rest = control_long (n + 1) items in omega (arith, rest)
 control_long n (control.Frame at bytes ∷ items) = let rest = control_long (n + 1) items in omega (arith, rest)
 control_long n (control.Proxy at key add ∷ items) = let rest = control_long (n + 1) items in omega (arith, rest)
 
-sender_long : (p n : ℕ) (items : List SendItem) → length (sender_ops p n items) ≡ length items
+pub sender_long : (p n : ℕ) (items : List SendItem) → length (sender_ops p n items) ≡ length items
 sender_long p n [] = refl
 sender_long p n (x ∷ xs) = let rest = sender_long p (n + 1) xs in omega (arith, rest)
 

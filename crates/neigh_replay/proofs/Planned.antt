@@ -1,15 +1,12 @@
 -- The plan of a script: one sender more, and the limits that a script keeps.
-use Rattle.std.proofs.Common.{◌≡◌, ℕ, zero, suc, ◌+◌, ◌≤◌, Bool, true, false, if◌then◌else◌, List, [], ◌∷◌, ◌++◌, map, length, refl, sym, ◌∙◌, ap, subst, arith}
+use Rattle.std.proofs.Common.{◌≡◌, ℕ, zero, suc, ◌+◌, ◌≤◌, Bool, true, false, if◌then◌else◌, List, [], ◌∷◌, ◌++◌, map, length, refl, sym, ◌∙◌, ap, arith}
 use Rattle.std.specs.Prelude.{◌==◌}
-use Rattle.std.proofs.lemmas.Bool.{cond_both}
-use Rattle.nb_base.specs.declared.plan.Plan.{Plan}
 use Rattle.nb_base.specs.declared.plan.SendItem.{SendItem}
-use Rattle.nb_base.specs.declared.plan.ControlItem.{ControlItem}
 use Rattle.neigh_script.specs.declared.script.Script.{Script}
 use Rattle.neigh_script.specs.declared.script.ScriptItem.{ScriptItem}
 use Rattle.neigh_script.specs.declared.script.ScriptItem.TheVariants as item
 use Rattle.neigh_script.specs.Context.{at_of}
-use Rattle.neigh_run.specs.Plan.{control_items, sent_by, sends_of, senders_from, plan_of, RisesFrom, control_at, send_at, IsList, AreLists, IsWithinLimits, IsScriptWithinLimits}
+use Rattle.neigh_run.specs.Plan.{control_items, sends_of, senders_from, plan_of, RisesFrom, control_at, send_at, IsList, AreLists, IsWithinLimits, IsScriptWithinLimits}
 
 next_sender : (k n : ℕ) (items : List ScriptItem) → senders_from k (suc n) items ≡ senders_from k n items ++ sends_of (k + n) items ∷ []
 next_sender k zero items = let same : k + 0 ≡ k = omega arith in rw same refl

@@ -1,6 +1,7 @@
 pub mod Window
 pub mod Settings
 pub mod Merging
-pub mod PlainRun
+pub mod Inline
+pub mod Answered
 pub mod Status
 pub mod Replay

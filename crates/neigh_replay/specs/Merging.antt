@@ -1,11 +1,6 @@
 -- The operations of a plan as lines, merged in order of moment one participant after the other.
-use Rattle.std.specs.Prelude.{ℕ, Bool, true, nat_le, if◌then◌else◌, List, [], ◌∷◌, map, flat_map, fold, Some, None}
-use Rattle.std.specs.List.{list_any}
-use Rattle.nb_base.specs.declared.key.Key.{Key}
-use Rattle.nb_base.specs.declared.op.Op.{Op}
-use Rattle.nb_base.specs.declared.op.Op.TheVariants as op
+use Rattle.std.specs.Prelude.{ℕ, nat_le, if◌then◌else◌, List, [], ◌∷◌, map, fold, Some, None}
 use Rattle.nb_base.specs.declared.line.Line.{Line}
-use Rattle.nb_journal.specs.Keys.{is_key}
 use Rattle.neigh_run.specs.Merged.{Entered}
 use Rattle.neigh_run.specs.Inline.{entered_line}
 use Rattle.neigh_run.specs.Plan.{RisesFrom}
@@ -33,20 +28,6 @@ line_at line = line.at
 abbrev pub AreByMoment : List Line → Type 0
 AreByMoment lines = RisesFrom 0 (map line_at lines)
 
--- the key that an operation adds
-abbrev pub key_added : Op → List Key
-key_added (op.Add key mac nud) = key ∷ []
-key_added _ = []
-
--- a send has its key among the keys
-abbrev pub finds_among : List Key → Op → Bool
-finds_among keys (op.Send key) = list_any (λ other. is_key other key) keys
-finds_among keys _ = true
-
 -- the operations of lines
 abbrev pub entered_of : List Line → List Entered
 entered_of lines = map entered_line lines
-
--- the keys that lines add
-abbrev pub keys_added : List Line → List Key
-keys_added lines = flat_map (λ (line : Line). key_added line.op) lines

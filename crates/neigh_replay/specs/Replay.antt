@@ -7,47 +7,57 @@ use Rattle.neigh_script.specs.declared.why.ScriptWhy.{ScriptWhy}
 use Rattle.neigh_script.specs.declared.why.ScriptFail.TheVariants as script_fail
 use Rattle.neigh_script.specs.Lines.{script_of}
 use Rattle.neigh_run.specs.declared.run.Run.{Run}
-use Rattle.neigh_run.specs.Plan.{plan_of, is_plain}
+use Rattle.neigh_run.specs.Plan.{plan_of, is_replayed}
 use Rattle.neigh_run.specs.Report.{report_text}
-use Rattle.neigh_run.specs.Inline.{IsInlineRun}
+use Rattle.neigh_run.specs.Inline.{IsInlineRun, IsTooLarge, journal_at}
 use Rattle.neigh_replay.specs.declared.replay.Failure.TheVariants as failure
 use Rattle.neigh_replay.specs.Settings.{Asked, asked}
+use Rattle.neigh_replay.specs.Inline.{most_lines}
 use Rattle.neigh_replay.specs.Status.{IsOneOf, Says, line_of, line_for, usage_line}
 
 -- the most bytes of a script: 8 MiB
 abbrev pub script_limit : ℕ
 script_limit = 8388608
 
--- a text is a script whose plan, with this window and one bucket, is plain
-pub record IsPlainText (window : ℕ) (text : List ℕ) : Type 0 where
+-- a text is a script whose plan, with this window and one bucket, is replayed
+pub record IsReplayedText (window : ℕ) (text : List ℕ) : Type 0 where
   pub script : Script
   pub read : script_of text ≡ Ok script
-  pub plain : is_plain (plan_of script window 1) ≡ true
+  pub replayed : is_replayed (plan_of script window 1) ≡ true
 
--- a text is a script whose plan isn't plain
+-- a text is a script whose plan isn't replayed
 pub record IsOtherText (window : ℕ) (text : List ℕ) : Type 0 where
   pub script : Script
   pub read : script_of text ≡ Ok script
-  pub other : is_plain (plan_of script window 1) ≡ false
+  pub other : is_replayed (plan_of script window 1) ≡ false
+
+-- a text is a script whose plan is replayed, and whose every inline run has a journal of more than 2^22 lines
+pub record IsTooLargeText (window : ℕ) (text : List ℕ) : Type 0 where
+  pub script : Script
+  pub read : script_of text ≡ Ok script
+  pub replayed : is_replayed (plan_of script window 1) ≡ true
+  pub large : IsTooLarge (plan_of script window 1)
 
 -- a text is refused as a script at this line, for this reason
 abbrev pub IsRefusedText : ℕ → ScriptWhy → List ℕ → Type 0
 IsRefusedText line why text = script_of text ≡ Err (script_fail.Refused line why)
 
--- a text is the report of the inline run of the script's plan, with this window and one bucket
+-- a text is the report of the inline run of the script's plan, with this window and one bucket, whose journal has at most 2^22 lines
 pub record IsReportOf (window : ℕ) (text report : List ℕ) : Type 0 where
   pub script : Script
   pub run : Run
   pub read : script_of text ≡ Ok script
-  pub plain : is_plain (plan_of script window 1) ≡ true
+  pub replayed : is_replayed (plan_of script window 1) ≡ true
   pub inline : IsInlineRun (plan_of script window 1) run
+  pub short : length (journal_at run.journals 0) ≤ most_lines
   pub spelled : report ≡ report_text run
 
--- a text is the report of a script, whose plan is plain
+-- a text is the report of a script, whose plan is replayed
 pub record IsScriptsReport (window : ℕ) (script : Script) (report : List ℕ) : Type 0 where
   pub run : Run
-  pub plain : is_plain (plan_of script window 1) ≡ true
+  pub replayed : is_replayed (plan_of script window 1) ≡ true
   pub inline : IsInlineRun (plan_of script window 1) run
+  pub short : length (journal_at run.journals 0) ≤ most_lines
   pub spelled : report ≡ report_text run
 
 -- the report of the script was written, and nothing else
@@ -107,7 +117,7 @@ pub record IsRefusal (name : List ℕ) (held : Option (List ℕ)) (err : SinkCal
 
 -- a replay of the script of this name, with this window, that ended with the status
 pub record IsReplay (name : List ℕ) (window : ℕ) (o : Outside) (status : ℕ) : Type 0 where
-  pub answer : IsOneOf (0 ∷ 1 ∷ 3 ∷ 5 ∷ 6 ∷ 8 ∷ 9 ∷ []) status
+  pub answer : IsOneOf (0 ∷ 1 ∷ 3 ∷ 5 ∷ 6 ∷ 7 ∷ 8 ∷ 9 ∷ []) status
   -- 0: exactly the report of the inline run of the script's plan was written, and nothing was said
   pub done : status ≡ 0 → IfSome (o.held name) (WritesReport window o.out.taken_before o.out.taken_after)
   pub quiet : status ≡ 0 → IsUntouched o.err
@@ -119,17 +129,20 @@ pub record IsReplay (name : List ℕ) (window : ℕ) (o : Outside) (status : ℕ
   -- 6: only where writing the report failed, of which a part from the front was written
   pub cannot_write : status ≡ 6 → SinkFailed o.out
   pub part : status ≡ 6 → IfSome (o.held name) (WritesPart window o.out.taken_before o.out.taken_after)
+  -- 7: exactly where the script's plan is replayed and its every inline run has a journal of more than 2^22 lines, with the same exceptions
+  pub too_large : status ≡ 7 → IfSome (o.held name) (λ text. (length text ≤ script_limit) × IsTooLargeText window text)
+  pub too_large_always : IfSome (o.held name) (λ text. length text ≤ script_limit → IsTooLargeText window text → IsOneOf (7 ∷ 3 ∷ 1 ∷ []) status)
   -- 8: exactly where the script is too long, unless reading it failed or no memory was left
   pub too_long : status ≡ 8 → IfSome (o.held name) (λ text. script_limit < length text)
   pub too_long_always : IfSome (o.held name) (λ text. script_limit < length text → IsOneOf (8 ∷ 3 ∷ 1 ∷ []) status)
-  -- 9: exactly where the script's plan isn't plain, with the same exceptions
+  -- 9: exactly where the script's plan isn't replayed, with the same exceptions
   pub not_built : status ≡ 9 → IfSome (o.held name) (λ text. (length text ≤ script_limit) × IsOtherText window text)
   pub not_built_always : IfSome (o.held name) (λ text. length text ≤ script_limit → IsOtherText window text → IsOneOf (9 ∷ 3 ∷ 1 ∷ []) status)
   -- no other status writes a report, and each failure says its line
   pub untouched : status ≢ 0 → status ≢ 6 → IsUntouched o.out
   pub said : status ≢ 0 → status ≢ 5 → SinkSays o.err (line_for status name)
-  -- where the script's plan is plain and nothing outside fails, the report is written, unless no memory is left
-  pub complete : IfSome (o.held name) (λ text. length text ≤ script_limit → IsPlainText window text → (NameFailed o name → ⊥) → (SinkFailed o.out → ⊥) → IsOneOf (0 ∷ 1 ∷ []) status)
+  -- where the script's plan is replayed and nothing outside fails, the report is written, unless no memory is left
+  pub complete : IfSome (o.held name) (λ text. length text ≤ script_limit → IsReplayedText window text → (NameFailed o name → ⊥) → (SinkFailed o.out → ⊥) → IsOneOf (0 ∷ 1 ∷ []) status)
 
 -- a call of the command with these words that ended with the status
 pub record IsCommand (words : List (List ℕ)) (o : Outside) (status : ℕ) : Type 0 where

@@ -5,7 +5,7 @@ use Rattle.std.specs.Io.KnownBytes.{Appends}
 use Rattle.nb_io.specs.Faults.{Rose}
 use Rattle.neigh_script.specs.Why.{number_of}
 use Rattle.neigh_replay.specs.declared.replay.Failure.{Failure}
-use Rattle.neigh_replay.specs.declared.replay.Failure.TheVariants.{Memory, ReadFault, TooLong, Refused, NotBuilt, WriteFault}
+use Rattle.neigh_replay.specs.declared.replay.Failure.TheVariants.{Memory, ReadFault, TooLong, Refused, TooLarge, NotBuilt, WriteFault}
 
 -- the status is one of these
 abbrev pub IsOneOf : List ℕ → ℕ → Type 0
@@ -17,6 +17,7 @@ line_of Memory name = codes "neigh: no memory\n"
 line_of ReadFault name = codes "neigh: cannot read " ++ (name ++ 10 ∷ [])
 line_of TooLong name = codes "neigh: too long: " ++ (name ++ 10 ∷ [])
 line_of (Refused line why) name = codes "neigh: script refused: " ++ (decimal (number_of why) ++ (codes " at line " ++ (decimal line ++ 10 ∷ [])))
+line_of TooLarge name = codes "neigh: too large\n"
 line_of NotBuilt name = codes "neigh: not built\n"
 line_of WriteFault name = codes "neigh: cannot write\n"
 
@@ -26,8 +27,9 @@ line_for status name =
     if status == 1 then line_of Memory name
     else (if status == 3 then line_of ReadFault name
     else (if status == 6 then line_of WriteFault name
+    else (if status == 7 then line_of TooLarge name
     else (if status == 8 then line_of TooLong name
-    else line_of NotBuilt name)))
+    else line_of NotBuilt name))))
 
 -- the line of status 2
 unfoldable pub usage_line : List ℕ

@@ -1,181 +1,171 @@
-//! The inline run of a plain plan: its entries are permanent, so each packet goes out at once and nothing else happens.
-ghost use Rattle.std.specs.Prelude.{◌≡◌, ℕ, ◌+◌, ◌<◌, ◌≤◌, ◌^◌, true, [], ◌∷◌, ◌++◌, length, IfOk, OnOk};
-ghost use Rattle.neigh_run.specs.Inline.{IsInlineRun};
-ghost use Rattle.neigh_run.specs.Merged.{merged};
-ghost use Rattle.neigh_run.specs.Plan as of;
+//! The inline run of a plan: its operations are entered into one bucket in merged order, and what the bucket answers goes to the participants.
+ghost use Rattle.std.specs.Prelude.{◌≡◌, ℕ, ◌≤◌, ◌<◌, ◌^◌, ◌/◌, true, [], ◌∷◌, ◌++◌, length, Err, IfOk, OnOk};
+ghost use Rattle.std.specs.List.{AllByRecursion};
+ghost use Rattle.nb_base.specs.Params.{InRange};
+ghost use Rattle.nud_machine.specs.Asked.{greatest};
+ghost use Rattle.neigh_run.specs.Inline.{IsInlineRun, journal_at};
 ghost use Rattle.neigh_run.specs.Plan.{IsWithinLimits};
-ghost use Rattle.neigh_replay.specs.Merging.{lines_of};
-ghost use Rattle.neigh_replay.specs.PlainRun as plain;
+ghost use Rattle.neigh_replay.specs.Inline.{most_lines, last_item_at, has_given_ops, plan_bound};
+ghost use Rattle.neigh_replay.specs.Answered as by;
+ghost use Rattle.neigh_replay.specs.Answered.{IsNumbered};
 
+use crate::answers::{Answer, enter_all};
+use crate::fail::ReplayFail;
 use crate::merging::merged_lines;
-use crate::plainness::{has_key, note_key};
-use nb_base::{
-    HostLine, Items, Journals, Key, Line, Log, Mode, Op, Outcome, Placed, Plan, Reply, Why,
-};
+use nb_base::{HostLine, Items, Journals, Line, Log, Mode, OpId, Outcome, Placed, Plan, Why};
+use nb_bucket::Bucket;
 use neigh_run::Run;
 use std::alloc::{AllocError, Global};
 
-fn is_of(participant: u32, line: &Line) -> bool
-    ensures { result ≡ plain.is_of participant line.now }
+/// The most lines of a journal: 2^22.
+const MOST_LINES: u32 = 4_194_304;
+
+fn is_to(participant: u32, answer: &Answer) -> bool
+    ensures { result ≡ by.is_to participant answer.now }
 {
-    match line.id {
-        Some(id) => id.0 % 32 == u64::from(participant),
-        None => false,
-    }
+    answer.id.0 % 32 == u64::from(participant)
 }
 
-/// Appends the outcome of the packet at this place, where it is one of this sender.
-fn take_outcome(
-    log: &mut Log,
-    participant: u32,
-    place: usize,
-    line: &Line,
-) -> Result<(), AllocError>
-    requires { place < 2 ^ 32 }
-    ensures { OnOk result (log.new ≡ log.old ++ plain.plain_outcome participant place line.now) }
+/// Appends the outcome of a packet, where the answer is one to this sender.
+fn take_outcome(log: &mut Log, participant: u32, answer: &Answer) -> Result<(), AllocError>
+    ensures { OnOk result (log.new ≡ log.old ++ by.outcome_by participant answer.now) }
 {
-    if is_of(participant, line) {
+    if is_to(participant, answer) {
         log.push(Outcome::Slow {
             why: Why::Inline,
-            place: place as u32,
-            reply: Reply::Sent,
+            place: answer.place,
+            reply: answer.reply,
         })
     } else {
         Ok(())
     }
 }
 
-#[tactic(auto, using(crate::proofs::PlainLines::plain_log_more))]
-fn log_of(alloc: Global, participant: u32, lines: &[Line]) -> Result<Log, AllocError>
-    requires { length lines.now < 2 ^ 32 }
-    ensures { IfOk result (λ log. log ≡ plain.plain_log participant 0 lines.now) }
+fn log_of(alloc: Global, participant: u32, answers: &[Answer]) -> Result<Log, AllocError>
+    ensures { IfOk result (λ log. log ≡ by.log_by participant answers.now) }
 {
     let mut log = Items::new(alloc);
-    for (place, line) in lines.iter().enumerate() {
-        take_outcome(&mut log, participant, place, line)?;
+    for answer in answers {
+        take_outcome(&mut log, participant, answer)?;
     }
     Ok(log)
 }
 
-#[tactic(auto, using(crate::proofs::PlainLines::plain_logs_more))]
-fn logs_of(alloc: Global, senders: u32, lines: &[Line]) -> Result<Items<Log>, AllocError>
-    requires senders { senders ≤ 16 }
-    requires few { length lines.now < 2 ^ 32 }
-    ensures { IfOk result (λ logs. logs ≡ plain.plain_logs 1 senders lines.now) }
+#[tactic(auto, using(crate::proofs::Logs::logs_more))]
+fn logs_of(alloc: Global, senders: u32, answers: &[Answer]) -> Result<Items<Log>, AllocError>
+    requires { senders ≤ 16 }
+    ensures { IfOk result (λ logs. logs ≡ by.logs_by 1 senders answers.now) }
 {
     let mut logs = Items::new(alloc);
     for before in 0..senders {
-        logs.push(log_of(alloc, before + 1, lines)?)?;
+        logs.push(log_of(alloc, before + 1, answers)?)?;
     }
     Ok(logs)
 }
 
-/// What the host did for an `add` at this place.
-fn host_line(
-    alloc: Global,
-    n: u32,
-    place: u32,
-    line: &Line,
-    reply: Reply,
-) -> Result<HostLine, AllocError>
-    ensures { IfOk result (λ own. own ≡ HostLine.Neigh n line.now.at (record { bucket = 0; place = place; reply = reply } ∷ [])) }
+/// The number of the item that an operation is of.
+fn number_of(id: OpId) -> u32
+    requires { id.0 < 2 ^ 37 }
+    ensures { result ≡ id.0 / 32 }
 {
+    (id.0 / 32) as u32
+}
+
+/// Appends the host's line, where the answer is one to participant 0.
+fn take_host_line(
+    alloc: Global,
+    host_lines: &mut Items<HostLine>,
+    answer: &Answer,
+) -> Result<(), AllocError>
+    requires { IsNumbered answer.now }
+    ensures { OnOk result (host_lines.new ≡ host_lines.old ++ by.host_line_by answer.now) }
+{
+    if !is_to(0, answer) {
+        return Ok(());
+    }
     let mut ops = Items::new(alloc);
     ops.push(Placed {
         bucket: 0,
-        place,
-        reply,
+        place: answer.place,
+        reply: answer.reply,
     })?;
-    Ok(HostLine::Neigh {
-        n,
-        at: line.at,
+    host_lines.push(HostLine::Neigh {
+        n: number_of(answer.id),
+        at: answer.at,
         ops,
     })
 }
 
-/// An `add` finds its entry where the key is among those that were added.
-fn add_reply(keys: &[Key], key: &Key) -> Reply
-    ensures { result ≡ plain.add_reply keys.now key.now }
+fn host_lines_of(alloc: Global, answers: &[Answer]) -> Result<Items<HostLine>, AllocError>
+    requires { AllByRecursion IsNumbered answers.now }
+    ensures { IfOk result (λ lines. lines ≡ by.host_lines_by answers.now) }
 {
-    if has_key(keys, key) {
-        Reply::Exists
-    } else {
-        Reply::Done
+    let mut host_lines = Items::new(alloc);
+    for answer in answers {
+        take_host_line(alloc, &mut host_lines, answer)?;
     }
+    Ok(host_lines)
 }
 
-/// Appends the host's line of an `add`.
-fn take_host_line(
-    alloc: Global,
-    hosts: &mut Items<HostLine>,
-    place: usize,
-    keys: &[Key],
-    line: &Line,
-) -> Result<(), AllocError>
-    requires place { place < 2 ^ 31 }
-    requires few { length hosts.old ≤ place }
-    ensures { OnOk result (hosts.new ≡ hosts.old ++ plain.plain_host_line (1 + length hosts.old) place keys.now line.now line.now.op) }
-{
-    let n = hosts.len() as u32;
-    match &line.op {
-        Op::Add { key, .. } => {
-            let reply = add_reply(keys, key);
-            let own = host_line(alloc, 1 + n, place as u32, line, reply)?;
-            hosts.push(own)
-        }
-        _ => Ok(()),
-    }
-}
-
-#[tactic(auto, using(crate::proofs::PlainLines::plain_host_more, crate::proofs::PlainLines::few_hosts, crate::proofs::Finds::keys_more))]
-fn hosts_of(alloc: Global, lines: &[Line]) -> Result<Items<HostLine>, AllocError>
-    requires { length lines.now < 2 ^ 31 }
-    ensures { IfOk result (λ hosts. hosts ≡ plain.plain_host 1 [] lines.now) }
-{
-    let mut hosts = Items::new(alloc);
-    let mut keys = Items::new(alloc);
-    for (place, line) in lines.iter().enumerate() {
-        take_host_line(alloc, &mut hosts, place, keys.as_slice(), line)?;
-        note_key(&mut keys, &line.op)?;
-    }
-    Ok(hosts)
-}
-
-fn one_journal(alloc: Global, lines: Items<Line>) -> Result<Journals, AllocError>
-    ensures { IfOk result (λ journals. journals ≡ lines ∷ []) }
+fn one_journal(alloc: Global, lines: &[Line]) -> Result<Journals, AllocError>
+    ensures { IfOk result (λ journals. journals ≡ lines.now ∷ []) }
 {
     let mut journals = Items::new(alloc);
-    journals.push(lines)?;
+    journals.push(Items::from_vec(lines.to_vec(alloc)?))?;
     Ok(journals)
 }
 
-fn run_with(alloc: Global, plan: Plan, lines: Items<Line>) -> Result<Run, AllocError>
+fn run_with(
+    alloc: Global,
+    plan: Plan,
+    journal: &[Line],
+    answers: &[Answer],
+) -> Result<Run, AllocError>
     requires senders { length plan.senders ≤ 16 }
-    requires few { length lines < 2 ^ 31 }
-    ensures { IfOk result (λ run. run ≡ plain.plain_run plan lines) }
+    requires numbered { AllByRecursion IsNumbered answers.now }
+    ensures { IfOk result (λ run. run ≡ by.run_by plan journal.now answers.now) }
 {
-    let host_lines = hosts_of(alloc, lines.as_slice())?;
-    let logs = logs_of(alloc, plan.senders.len() as u32, lines.as_slice())?;
+    let host_lines = host_lines_of(alloc, answers)?;
+    let logs = logs_of(alloc, plan.senders.len() as u32, answers)?;
     Ok(Run {
         mode: Mode::Inline,
         plan,
-        journals: one_journal(alloc, lines)?,
+        journals: one_journal(alloc, journal)?,
         host_lines,
         logs,
         marks: Items::new(alloc),
     })
 }
 
-/// The inline run of a plain plan with one bucket, each participant's items in order and no more than a script has lines, and at most 16 senders.
-/// Each operation has its line, in merged order, and nothing else has one: no entry has a timer, and too few are present for a sweep or a forced removal.
-/// It goes over the lines once for each sender, and compares each `add`'s key with those before it.
-#[tactic(auto, using(crate::proofs::PlainRuns::plain_run_alike))]
-pub fn replay_plain(alloc: Global, plan: Plan) -> Result<Run, AllocError>
-    requires plain { of.is_plain plan ≡ true }
+/// The inline run of a plan with one bucket, each participant's items in order and no more than a script has lines, and at most 16 senders.
+/// Its operations are entered into a bucket in merged order. The run's journal has at most 2^22 lines.
+///
+/// # Errors
+/// `TooLarge` where the next lines don't fit into 2^22 lines, which comes only where the plan's line bound is at least 2^22; and want of memory.
+pub fn replay_inline(alloc: Global, plan: Plan) -> Result<Run, ReplayFail>
+    requires params { InRange plan.params }
     requires one_bucket { plan.buckets ≡ 1 }
     requires within { IsWithinLimits plan }
-    ensures { IfOk result (λ run. IsInlineRun plan run) }
+    requires moments { last_item_at plan ≤ greatest }
+    requires operations { has_given_ops plan ≡ true }
+    ensures run { IfOk result (IsInlineRun plan) }
+    ensures short { IfOk result (λ run. length (journal_at run.journals 0) ≤ most_lines) }
+    ensures too_large { result ≡ Err ReplayFail.TooLarge → most_lines ≤ plan_bound plan }
 {
     let lines = merged_lines(alloc, &plan)?;
-    run_with(alloc, plan, lines)
+    let mut bucket = new_bucket(alloc, &plan)?;
+    let answers = enter_all(alloc, &mut bucket, lines.as_slice())?;
+    let run = run_with(alloc, plan, bucket.lines(), answers.as_slice())?;
+    Ok(run)
+}
+
+/// An empty bucket for the plan.
+fn new_bucket(alloc: Global, plan: &Plan) -> Result<Bucket, AllocError>
+    requires { InRange plan.now.params }
+    ensures { IfOk result (λ bucket. bucket ≡ record { params = plan.now.params; limit = most_lines; lines = []; clock = 0 }) }
+{
+    match Bucket::new(alloc, &plan.params, &plan.host, MOST_LINES) {
+        Ok(bucket) => Ok(bucket),
+        Err(_) => Err(AllocError),
+    }
 }

@@ -21,6 +21,7 @@ pub fn line_of(alloc: Global, failure: Failure, script: &str) -> Result<String, 
         Failure::WriteFault => String::from_str(alloc, "neigh: cannot write\n"),
         Failure::TooLong => named_line(alloc, "neigh: too long: ", script),
         Failure::Refused { line, why } => refusal_line(alloc, line, why),
+        Failure::TooLarge => String::from_str(alloc, "neigh: too large\n"),
         Failure::NotBuilt => String::from_str(alloc, "neigh: not built\n"),
     }
 }

@@ -2,6 +2,7 @@ use crate::run;
 use nb_base::{Bytes, Items};
 use nb_io::{MemoryFile, MemoryInputs, MemorySink, OpenGate};
 use std::alloc::{AllocError, Global};
+use std::fmt::Write;
 use std::test::Fail;
 
 const SHOW: &str = "host dev eth0 lladdr 02:00:00:00:00:02 inet 10.0.0.2\n@0 neigh show\n";
@@ -16,6 +17,18 @@ const EARLY: &str =
 
 const OTHER_DEVICE: &str =
     "host dev eth0 lladdr 02:00:00:00:00:02 inet 10.0.0.2\n@0 neigh add 10.0.0.1 dev eth1\n";
+
+const PROXY: &str =
+    "host dev eth0 lladdr 02:00:00:00:00:02 inet 10.0.0.2\n@0 neigh add proxy 10.0.0.1\n";
+
+const PACKET_TO_IP6: &str =
+    "host dev eth0 lladdr 02:00:00:00:00:02 inet6 2001:db8::2\n@0 send 1 2001:db8::1 00\n";
+
+const OTHER_INTERVAL: &str =
+    "host dev eth0 lladdr 02:00:00:00:00:02 inet 10.0.0.2\nparam gc_interval 20000\n";
+
+const DEFAULT_INTERVAL: &str =
+    "host dev eth0 lladdr 02:00:00:00:00:02 inet 10.0.0.2\nparam gc_interval 30000\n";
 
 const FOUR_SENDERS: &str = "\
 host dev eth0 lladdr 02:00:00:00:00:02 inet 10.0.0.2
@@ -35,6 +48,41 @@ const HOST_REPORT: &str =
 
 const PACKET_REPORT: &str =
     "neigh 1 mode inline buckets 1 senders 1 window 50\nhost dev eth0 lladdr 02:00:00:00:00:02 inet 10.0.0.2\nbucket 0 lines 2\n0 0 32 add 10.0.0.1 00:11:22:33:44:55 permanent -> done\n1 5 33 send 10.0.0.1 -> sent\n  tx 33 00112233445502000000000208004500\nhost lines 1\n1 0 neigh op 0 0 done\nsender 1 items 1\n1 5 inline 1 sent\nmarks 0\nfates sent 1 fast 0 dropped 0 waiting 0\ntable 1\n10.0.0.1 dev eth0 lladdr 00:11:22:33:44:55 PERMANENT\nproxies 0\nend\n";
+
+const SHOW_REPORT: &str = "\
+neigh 1 mode inline buckets 1 senders 1 window 50
+host dev eth0 lladdr 02:00:00:00:00:02 inet 10.0.0.2
+bucket 0 lines 1
+0 0 32 show -> counted 0
+host lines 1
+1 0 neigh op 0 0 counted 0
+sender 1 items 0
+marks 0
+fates sent 0 fast 0 dropped 0 waiting 0
+table 0
+proxies 0
+end
+";
+
+const EARLY_REPORT: &str = "\
+neigh 1 mode inline buckets 1 senders 1 window 50
+host dev eth0 lladdr 02:00:00:00:00:02 inet 10.0.0.2
+bucket 0 lines 2
+0 5 33 send 10.0.0.1 -> waits
+  solicit ffffffffffff020000000002080600010800060400010200000000020a0000020000000000000a000001
+  wait 33
+1 6 32 add 10.0.0.1 00:11:22:33:44:55 permanent -> exists
+host lines 1
+1 6 neigh op 0 1 exists
+sender 1 items 1
+1 5 inline 0 waits
+marks 0
+fates sent 0 fast 0 dropped 0 waiting 1
+table 1
+10.0.0.1 dev eth0 INCOMPLETE
+proxies 0
+end
+";
 
 const FOUR_SENDERS_REPORT: &str = "\
 neigh 1 mode inline buckets 1 senders 4 window 70
@@ -92,7 +140,7 @@ struct Call {
 
 const NAMED: &[&str] = &["--script", "s"];
 
-const CALLS: [Call; 16] = [
+const CALLS: [Call; 20] = [
     Call {
         shows: "host_alone",
         words: NAMED,
@@ -114,14 +162,14 @@ const CALLS: [Call; 16] = [
         err: "",
     },
     Call {
-        shows: "show_is_not_built",
+        shows: "a look at an empty table",
         words: NAMED,
         script: SHOW,
         read_fails: 0,
         write_fails: 0,
-        status: 9,
-        out: "",
-        err: "neigh: not built\n",
+        status: 0,
+        out: SHOW_REPORT,
+        err: "",
     },
     Call {
         shows: "a packet before its entry",
@@ -129,9 +177,49 @@ const CALLS: [Call; 16] = [
         script: EARLY,
         read_fails: 0,
         write_fails: 0,
+        status: 0,
+        out: EARLY_REPORT,
+        err: "",
+    },
+    Call {
+        shows: "a proxy line isn't built",
+        words: NAMED,
+        script: PROXY,
+        read_fails: 0,
+        write_fails: 0,
         status: 9,
         out: "",
         err: "neigh: not built\n",
+    },
+    Call {
+        shows: "a packet to an IPv6 address isn't built",
+        words: NAMED,
+        script: PACKET_TO_IP6,
+        read_fails: 0,
+        write_fails: 0,
+        status: 9,
+        out: "",
+        err: "neigh: not built\n",
+    },
+    Call {
+        shows: "another sweep interval isn't built",
+        words: NAMED,
+        script: OTHER_INTERVAL,
+        read_fails: 0,
+        write_fails: 0,
+        status: 9,
+        out: "",
+        err: "neigh: not built\n",
+    },
+    Call {
+        shows: "the default sweep interval",
+        words: NAMED,
+        script: DEFAULT_INTERVAL,
+        read_fails: 0,
+        write_fails: 0,
+        status: 0,
+        out: HOST_REPORT,
+        err: "",
     },
     Call {
         shows: "four senders with equal moments",
@@ -312,13 +400,13 @@ fn packet_of(alloc: Global, len: usize) -> Result<Bytes, AllocError> {
     Ok(Items::from_vec(text.into_bytes()))
 }
 
-/// The packet is accepted, though the plan isn't plain, or it is refused.
+/// The packet is accepted, and waits, or it is refused.
 #[test]
 fn payload_of_1500_and_1501_bytes(rt: HostRuntime) -> Result<(), Fail> {
     let alloc = rt.alloc();
-    for (len, expected) in [(1500, 9), (1501, 5)] {
+    for (len, expected) in [(1500, 0), (1501, 5)] {
         let mut inputs = one_file(alloc, packet_of(alloc, len)?, &[])?;
-        let mut out = MemorySink::new(alloc, 10, 10, &[])?;
+        let mut out = MemorySink::new(alloc, 4096, 4096, &[])?;
         let mut err = MemorySink::new(alloc, 200, 200, &[])?;
         let words = strings(alloc, NAMED)?;
         let status = run(
@@ -337,6 +425,37 @@ fn payload_of_1500_and_1501_bytes(rt: HostRuntime) -> Result<(), Fail> {
                 b"neigh: script refused: 7 at line 2\n".as_slice()
             );
         }
+    }
+    Ok(())
+}
+
+/// A host line, and packets to so many addresses.
+fn packets_to(alloc: Global, count: u32) -> Result<Bytes, AllocError> {
+    let mut text = String::from_str(alloc, HOST)?;
+    for number in 1..=count {
+        writeln!(text, "@0 send 1 10.0.1.{number} 00")?;
+    }
+    Ok(Items::from_vec(text.into_bytes()))
+}
+
+#[test]
+fn packets_to_127_and_128_addresses(rt: HostRuntime) -> Result<(), Fail> {
+    let alloc = rt.alloc();
+    for (count, expected) in [(127, 0), (128, 9)] {
+        let mut inputs = one_file(alloc, packets_to(alloc, count)?, &[])?;
+        let mut out = MemorySink::new(alloc, 65_536, 65_536, &[])?;
+        let mut err = MemorySink::new(alloc, 200, 200, &[])?;
+        let words = strings(alloc, NAMED)?;
+        let status = run(
+            &rt,
+            alloc,
+            &words,
+            &mut inputs,
+            &mut out,
+            &mut err,
+            &OpenGate,
+        );
+        assert_eq!(rt; status, expected, "{count} addresses");
     }
     Ok(())
 }

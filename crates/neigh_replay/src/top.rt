@@ -74,6 +74,7 @@ fn replay_and_tell<I: Inputs, K: Sink, E: Sink>(
     ensures read_fault { result ≡ Err Failure.ReadFault → Rose (I.faults inputs.old script.now) (I.faults inputs.new script.now) }
     ensures too_long { result ≡ Err Failure.TooLong → IfSome (I.held inputs.old script.now) (λ bytes. SCRIPT_LIMIT < length bytes) }
     ensures refused { (line : ℕ) (why : ScriptWhy) → result ≡ Err (Failure.Refused line why) → IfSome (I.held inputs.old script.now) (λ text. (length text ≤ SCRIPT_LIMIT) × IsRefusedText line why text) }
+    ensures never_too_large { result ≡ Err Failure.TooLarge → ⊥ }
     ensures not_built { result ≡ Err Failure.NotBuilt → IfSome (I.held inputs.old script.now) (λ text. (length text ≤ SCRIPT_LIMIT) × IsOtherText window text) }
     ensures write_fault { result ≡ Err Failure.WriteFault → Rose (K.faults out.old) (K.faults out.new) }
     ensures part { result ≡ Err Failure.WriteFault → IfSome (I.held inputs.old script.now) (WritesPart window (K.taken out.old) (K.taken out.new)) }
@@ -96,7 +97,7 @@ fn replay_status<I: Inputs, K: Sink, E: Sink>(
     out: &mut K,
     err: &mut E,
 ) -> u8
-    ensures answer { IsOneOf (0 ∷ 1 ∷ 3 ∷ 5 ∷ 6 ∷ 8 ∷ 9 ∷ []) result }
+    ensures answer { IsOneOf (0 ∷ 1 ∷ 3 ∷ 5 ∷ 6 ∷ 7 ∷ 8 ∷ 9 ∷ []) result }
     ensures done { result ≡ 0 → IfSome (I.held inputs.old script.now) (WritesReport window (K.taken out.old) (K.taken out.new)) }
     ensures done_within { result ≡ 0 → IfSome (I.held inputs.old script.now) (λ bytes. length bytes ≤ SCRIPT_LIMIT) }
     ensures quiet { result ≡ 0 → E.taken err.new ≡ E.taken err.old }
@@ -106,6 +107,7 @@ fn replay_status<I: Inputs, K: Sink, E: Sink>(
     ensures part_within { result ≡ 6 → IfSome (I.held inputs.old script.now) (λ bytes. length bytes ≤ SCRIPT_LIMIT) }
     ensures too_long { result ≡ 8 → IfSome (I.held inputs.old script.now) (λ bytes. SCRIPT_LIMIT < length bytes) }
     ensures refused { result ≡ 5 → IsRefusal script.now (I.held inputs.old script.now) (sink_call (E.taken err.old) (E.taken err.new) (E.faults err.old) (E.faults err.new)) }
+    ensures never_too_large { result ≡ 7 → ⊥ }
     ensures not_built { result ≡ 9 → IfSome (I.held inputs.old script.now) (λ text. (length text ≤ SCRIPT_LIMIT) × IsOtherText window text) }
     ensures untouched { result ≢ 0 → result ≢ 6 → K.taken out.new ≡ K.taken out.old }
     ensures said { result ≢ 0 → result ≢ 5 → Says (E.taken err.old) (E.taken err.new) (E.faults err.old) (E.faults err.new) (line_for result script.now) }
@@ -116,6 +118,7 @@ fn replay_status<I: Inputs, K: Sink, E: Sink>(
         Err(Failure::ReadFault) => 3,
         Err(Failure::Refused { .. }) => 5,
         Err(Failure::WriteFault) => 6,
+        Err(Failure::TooLarge) => 7,
         Err(Failure::TooLong) => 8,
         Err(Failure::NotBuilt) => 9,
     }

@@ -1,7 +1,7 @@
--- The outcomes of the lines so far.
+-- The answers so far are taken.
 use Rattle.std.proofs.Common.{◌≡◌, take}
-use Rattle.neigh_replay.specs.PlainRun.{plain_log}
+use Rattle.neigh_replay.specs.Answered.{log_by}
 use Rattle.neigh_replay.proofs.inline.log_of.Given as goal
 
-abbrev pub invariant-loop-place : goal.invariant-loop-place
-invariant-loop-place l = l.log ≡ plain_log l.participant 0 (take l.place l.lines)
+abbrev pub invariant-loop-answer : goal.invariant-loop-answer
+invariant-loop-answer l = l.log ≡ log_by l.participant (take l.answer-index l.answers)

@@ -1,5 +1,5 @@
 -- The lines taken and those that are left, in order, are the lines in order.
-use Rattle.std.proofs.Common.{◌≡◌, ℕ, ◌+◌, ◌++◌, length}
+use Rattle.std.proofs.Common.{◌≡◌, ◌+◌, ◌++◌, length}
 use Rattle.neigh_replay.specs.Merging.{insert_lines, AreByMoment}
 use Rattle.neigh_replay.proofs.merging.merge.Given as goal
 

@@ -1,5 +1,5 @@
 -- Participant 0's lines are in order, and behind the last sender all are merged.
-use Rattle.std.proofs.Common.{◌≡◌, List, length, ◌∙◌, ap, arith}
+use Rattle.std.proofs.Common.{List, length, ◌∙◌, ap, arith}
 use Rattle.nb_base.specs.declared.plan.ControlItem.{ControlItem}
 use Rattle.nb_base.specs.declared.plan.SendItem.{SendItem}
 use Rattle.neigh_run.specs.Merged.{control_ops}

@@ -1,5 +1,5 @@
 -- The senders so far have their packets.
-use Rattle.std.proofs.Common.{◌≡◌, ◌≤◌}
+use Rattle.std.proofs.Common.{◌≡◌}
 use Rattle.neigh_run.specs.Plan.{senders_from}
 use Rattle.neigh_replay.proofs.planning.senders_of.Given as goal
 

@@ -1,0 +1,202 @@
+-- The run that is made of a bucket's journal and its answers is the plan's inline run.
+use Rattle.std.proofs.Common.{◌≡◌, ℕ, ◌+◌, ◌*◌, ◌/◌, ◌≤◌, Bool, true, false, if◌then◌else◌, List, [], ◌∷◌, ◌++◌, length, map, Option, Some, None, unwrap_or, refl, sym, ◌∙◌, ap, subst, arith, append_assoc}
+use Rattle.std.specs.Prelude.{filter, ◌==◌}
+use Rattle.std.specs.Option.{option_map_or}
+use Rattle.std.specs.List.{AllByRecursion}
+use Rattle.std.proofs.lemmas.Bool.{eq-eqb}
+use Rattle.nb_base.specs.declared.key.Key.{Key}
+use Rattle.nb_base.specs.declared.key.Key.TheVariants.{V4, V6}
+use Rattle.nb_base.specs.declared.time.OpId.{OpId}
+use Rattle.nb_base.specs.declared.op.Op.{Op}
+use Rattle.nb_base.specs.declared.line.Line.{Line}
+use Rattle.nb_base.specs.declared.line.Reply.TheVariants as reply
+use Rattle.nb_base.specs.declared.outcome.Why.TheVariants as why
+use Rattle.nb_base.specs.declared.outcome.Outcome.{Outcome}
+use Rattle.nb_base.specs.declared.outcome.Outcome.TheVariants as outcome
+use Rattle.nb_base.specs.declared.params.Params.{Params}
+use Rattle.nb_base.specs.Buckets.{bucket_of}
+use Rattle.nb_base.specs.declared.plan.Plan.{Plan}
+use Rattle.nb_base.specs.declared.plan.SendItem.{SendItem}
+use Rattle.nb_base.specs.declared.plan.ControlItem.{ControlItem}
+use Rattle.nb_base.specs.declared.plan.ControlItem.TheVariants as control
+use Rattle.nb_base.specs.declared.host_line.Placed.{Placed}
+use Rattle.nb_base.specs.declared.host_line.HostLine.{HostLine}
+use Rattle.nb_base.specs.declared.host_line.HostLine.TheVariants as host_line
+use Rattle.nb_journal.specs.Keys.{key_of, is_own}
+use Rattle.nb_journal.specs.Fold.{id_of, reply_of}
+use Rattle.nb_journal.specs.Lawful.{IsLawful}
+use Rattle.nb_bucket.specs.Bucket.{Journal}
+use Rattle.neigh_run.specs.Merged.{Entered, id_for, control_ops, sender_ops, goes_to, merged, merged_for}
+use Rattle.neigh_run.specs.Inline.{own_lines, entered_line, placed_at, placed_from, log_of, logs_of, host_lines_of, IsInlineRun}
+use Rattle.neigh_run.specs.declared.run.Run.{Run}
+use Rattle.neigh_run.specs.Plan.{IsWithinLimits}
+use Rattle.neigh_replay.specs.declared.answers.Answer.{Answer}
+use Rattle.neigh_replay.specs.Merging.{lines_of}
+use Rattle.neigh_replay.specs.Answered.{answer_to, answers_behind, HasEntered, log_by, logs_by, host_lines_by, run_by, IsNumbered}
+use Rattle.neigh_replay.proofs.Orders.{Each, count, entered_again}
+use Rattle.neigh_replay.proofs.Numbers.{has_id, is_by, Owns, IsSmall}
+use Rattle.neigh_replay.proofs.Owners.{IsInOrder, in_order}
+use Rattle.neigh_replay.proofs.Placed.{operations, IsNamedOnce, placed, placed_is}
+
+-- a table of one bucket has every key in it
+bucket_of-one : (key : Key) → bucket_of 1 key ≡ 0
+bucket_of-one (V4 a) = omega arith
+bucket_of-one (V6 a) = omega arith
+
+pub goes : (o : Op) → goes_to 1 0 o ≡ true
+goes o = by_key (key_of o) where
+  by_key : (k : Option Key) → option_map_or (λ (key : Key). bucket_of 1 key == 0) k true ≡ true
+  by_key None = refl
+  by_key (Some key) = eq-eqb (bucket_of 1 key) 0 (bucket_of-one key)
+
+goes_all : (xs : List Entered) → filter (λ x. goes_to 1 0 x.op) xs ≡ xs
+goes_all [] = refl
+goes_all (x ∷ xs) = rw (goes x.op) (ap (λ (ys : List Entered). x ∷ ys) (goes_all xs))
+
+pub merged_for-one : (plan : Plan) → plan.buckets ≡ 1 → merged_for plan 0 ≡ merged plan
+merged_for-one plan one = ap (λ (n : ℕ). filter (λ x. goes_to n 0 x.op) (merged plan)) one ∙ goes_all (merged plan)
+
+-- ---- the logs
+
+abbrev out : Plan → List Line → OpId → Outcome
+out plan journal id = outcome.Slow why.Inline (placed plan journal id).place (placed plan journal id).reply
+
+abbrev outs : Plan → List Line → List Entered → List Outcome
+outs plan journal xs = map (λ (x : Entered). out plan journal x.id) xs
+
+log_is : (plan : Plan) (journal : List Line) (p n : ℕ) (items : List SendItem) → plan.buckets ≡ 1 → log_of plan (journal ∷ []) p n items ≡ outs plan journal (sender_ops p n items)
+log_is plan journal p n [] one = refl
+log_is plan journal p n (x ∷ xs) one =
+    ap (λ (b : ℕ). outcome.Slow why.Inline (placed_at plan (journal ∷ []) (id_for p n) b).place (placed_at plan (journal ∷ []) (id_for p n) b).reply ∷ log_of plan (journal ∷ []) p (n + 1) xs) (ap (λ (m : ℕ). bucket_of m x.key) one ∙ bucket_of-one x.key)
+    ∙ ap (λ (os : List Outcome). out plan journal (id_for p n) ∷ os) (log_is plan journal p (n + 1) xs one)
+
+logged : (plan : Plan) (journal : List Line) (p : ℕ) (past xs : List Line) → IsNamedOnce journal → journal ≡ past ++ xs
+    → log_by p (answers_behind plan.params past xs) ≡ outs plan journal (filter (is_by p) (operations xs))
+logged plan journal p past [] named e = refl
+logged plan journal p past (x ∷ xs) named e =
+    by_tests (is_own x.op) (is_by p (entered_line x)) refl refl (logged plan journal p (past ++ x ∷ []) xs named (e ∙ sym (append_assoc past (x ∷ []) xs))) where
+      here : is_own x.op ≡ true → out plan journal (id_of x) ≡ outcome.Slow why.Inline (length past) (unwrap_or (reply_of plan.params past x) reply.Ignored)
+      here own = ap (λ (at : Placed). outcome.Slow why.Inline at.place at.reply) (placed_is plan journal past xs x own named e)
+
+      rest : List Answer
+      rest = answers_behind plan.params (past ++ x ∷ []) xs
+
+      by_tests : (own mine : Bool) → is_own x.op ≡ own → is_by p (entered_line x) ≡ mine → log_by p rest ≡ outs plan journal (filter (is_by p) (operations xs))
+          → log_by p ((if own then answer_to plan.params past x ∷ [] else []) ++ rest) ≡ outs plan journal (filter (is_by p) (map entered_line (if own then x ∷ own_lines xs else own_lines xs)))
+      by_tests true true o m same =
+          rw m
+          (ap (λ (os : List Outcome). outcome.Slow why.Inline (length past) (unwrap_or (reply_of plan.params past x) reply.Ignored) ∷ os) same
+          ∙ ap (λ (one : Outcome). one ∷ outs plan journal (filter (is_by p) (operations xs))) (sym (here o)))
+      by_tests true false o m same = rw m same
+      by_tests false mine o m same = same
+
+logs_are : (plan : Plan) (journal : List Line) (p : ℕ) (senders : List (List SendItem)) → plan.buckets ≡ 1 → IsNamedOnce journal → Owns (operations journal) p senders
+    → logs_by p (length senders) (answers_behind plan.params [] journal) ≡ logs_of plan (journal ∷ []) p senders
+logs_are plan journal p [] one named owns = refl
+logs_are plan journal p (items ∷ rest) one named owns =
+    ap (λ (log : List Outcome). log ∷ logs_by (p + 1) (length rest) (answers_behind plan.params [] journal)) (
+    logged plan journal p [] journal named refl
+    ∙ ap (outs plan journal) owns.0
+    ∙ sym (log_is plan journal p 1 items one)
+    )
+    ∙ ap (λ (logs : List (List Outcome)). log_of plan (journal ∷ []) p 1 items ∷ logs) (logs_are plan journal (p + 1) rest one named owns.1)
+
+-- ---- the host's lines
+
+abbrev host : Plan → List Line → Entered → HostLine
+host plan journal x = host_line.Neigh (x.id.0 / 32) x.at (placed plan journal x.id ∷ [])
+
+abbrev hosts : Plan → List Line → List Entered → List HostLine
+hosts plan journal xs = map (host plan journal) xs
+
+one_bucket : (plan : Plan) (journal : List Line) (id : OpId) (o : Op) → plan.buckets ≡ 1 → placed_from 0 plan.buckets plan (journal ∷ []) id o ≡ placed plan journal id ∷ []
+one_bucket plan journal id o one =
+    ap (λ (n : ℕ). placed_from 0 n plan (journal ∷ []) id o) one
+    ∙ ap (λ (n : ℕ). (if goes_to n 0 o then placed plan journal id ∷ [] else []) ++ []) one
+    ∙ ap (λ (b : Bool). (if b then placed plan journal id ∷ [] else []) ++ []) (goes o)
+
+hosts_are : (plan : Plan) (journal : List Line) (n : ℕ) (items : List ControlItem) → plan.buckets ≡ 1 → host_lines_of plan (journal ∷ []) n items ≡ hosts plan journal (control_ops n items)
+hosts_are plan journal n [] one = refl
+hosts_are plan journal n (control.Neigh at o ∷ items) one =
+    let number : (32 * n + 0) / 32 ≡ n = omega arith in
+    ap (λ (ps : List Placed). host_line.Neigh n at ps ∷ host_lines_of plan (journal ∷ []) (n + 1) items) (one_bucket plan journal (id_for 0 n) o one)
+    ∙ ap (λ (m : ℕ). host_line.Neigh m at (placed plan journal (id_for 0 n) ∷ []) ∷ host_lines_of plan (journal ∷ []) (n + 1) items) (sym number)
+    ∙ ap (λ (hs : List HostLine). host_line.Neigh ((32 * n + 0) / 32) at (placed plan journal (id_for 0 n) ∷ []) ∷ hs) (hosts_are plan journal (n + 1) items one)
+hosts_are plan journal n (control.Frame at bytes ∷ items) one = hosts_are plan journal (n + 1) items one
+hosts_are plan journal n (control.Proxy at key add ∷ items) one = hosts_are plan journal (n + 1) items one
+
+hosted : (plan : Plan) (journal past xs : List Line) → IsNamedOnce journal → journal ≡ past ++ xs
+    → host_lines_by (answers_behind plan.params past xs) ≡ hosts plan journal (filter (is_by 0) (operations xs))
+hosted plan journal past [] named e = refl
+hosted plan journal past (x ∷ xs) named e =
+    by_tests (is_own x.op) (is_by 0 (entered_line x)) refl refl (hosted plan journal (past ++ x ∷ []) xs named (e ∙ sym (append_assoc past (x ∷ []) xs))) where
+      rest : List Answer
+      rest = answers_behind plan.params (past ++ x ∷ []) xs
+
+      by_tests : (own mine : Bool) → is_own x.op ≡ own → is_by 0 (entered_line x) ≡ mine → host_lines_by rest ≡ hosts plan journal (filter (is_by 0) (operations xs))
+          → host_lines_by ((if own then answer_to plan.params past x ∷ [] else []) ++ rest) ≡ hosts plan journal (filter (is_by 0) (map entered_line (if own then x ∷ own_lines xs else own_lines xs)))
+      by_tests true true o m same =
+          rw m
+          (ap (λ (at : Placed). host_line.Neigh ((id_of x).0 / 32) x.at (at ∷ []) ∷ host_lines_by rest) (sym (placed_is plan journal past xs x o named e))
+          ∙ ap (λ (hs : List HostLine). host plan journal (entered_line x) ∷ hs) same)
+      by_tests true false o m same = rw m same
+      by_tests false mine o m same = same
+
+-- ---- the numbers
+
+numbered : (p : Params) (past xs : List Line) → Each IsSmall (operations xs) → AllByRecursion IsNumbered (answers_behind p past xs)
+numbered p past [] small = tt
+numbered p past (x ∷ xs) small = by_test (is_own x.op) small (λ rest. numbered p (past ++ x ∷ []) xs rest) where
+  by_test : (own : Bool) → Each IsSmall (map entered_line (if own then x ∷ own_lines xs else own_lines xs)) → (Each IsSmall (operations xs) → AllByRecursion IsNumbered (answers_behind p (past ++ x ∷ []) xs))
+      → AllByRecursion IsNumbered ((if own then answer_to p past x ∷ [] else []) ++ answers_behind p (past ++ x ∷ []) xs)
+  by_test true h rest = (h.0, rest h.1)
+  by_test false h rest = rest h
+
+-- ---- the whole run
+
+abbrev Made : Plan → Journal → List Answer → Type 0
+Made plan bucket answers = HasEntered (lines_of (merged plan)) bucket answers
+
+entered_all : (plan : Plan) (bucket : Journal) (answers : List Answer) → Made plan bucket answers → operations bucket.lines ≡ merged plan
+entered_all plan bucket answers h = h.entered ∙ entered_again (merged plan)
+
+pub numbered_all : (plan : Plan) (bucket : Journal) (answers : List Answer) → IsWithinLimits plan → Made plan bucket answers → AllByRecursion IsNumbered answers
+numbered_all plan bucket answers within h =
+    subst (AllByRecursion IsNumbered) (sym h.answered) (numbered bucket.params [] bucket.lines (subst (Each IsSmall) (sym (entered_all plan bucket answers h)) (in_order plan within).small))
+
+pub made_inline : (plan : Plan) (bucket : Journal) (answers : List Answer) (run : Run) → plan.buckets ≡ 1 → IsWithinLimits plan → bucket.params ≡ plan.params → Made plan bucket answers → run ≡ run_by plan bucket.lines answers
+    → IsInlineRun plan run
+made_inline plan bucket answers run one within params h is = subst (IsInlineRun plan) (sym is) (record {
+  mode = refl;
+  plan = refl;
+  buckets = sym one;
+  journals = (
+    record {
+      lawful = subst (λ (m : ℕ). IsLawful plan.params bucket.lines m) h.clock (subst (λ (q : Params). IsLawful q bucket.lines bucket.clock) params h.lawful);
+      ends = h.ends;
+      entered = entered ∙ sym (merged_for-one plan one);
+    },
+    tt,
+  );
+  logs =
+      ap (logs_by 1 (length plan.senders)) answered
+      ∙ logs_are plan bucket.lines 1 plan.senders one named (subst (λ (xs : List Entered). Owns xs 1 plan.senders) (sym entered) order.owns);
+  host_lines =
+      ap host_lines_by answered
+      ∙ hosted plan bucket.lines [] bucket.lines named refl
+      ∙ ap (λ (xs : List Entered). hosts plan bucket.lines (filter (is_by 0) xs)) entered
+      ∙ ap (hosts plan bucket.lines) order.control
+      ∙ sym (hosts_are plan bucket.lines 1 plan.control one);
+  marks = refl;
+}) where
+  order : IsInOrder plan
+  order = in_order plan within
+
+  entered : operations bucket.lines ≡ merged plan
+  entered = entered_all plan bucket answers h
+
+  answered : answers ≡ answers_behind plan.params [] bucket.lines
+  answered = h.answered ∙ ap (λ (q : Params). answers_behind q [] bucket.lines) params
+
+  named : IsNamedOnce bucket.lines
+  named = record { stamped = h.lawful.orderly.ids; once = λ id. subst (λ (xs : List Entered). count (has_id id) xs ≤ 1) (sym entered) (order.once id) }

@@ -1,0 +1,73 @@
+-- The machine can step over the lines of an inline run, as a report's text asks.
+use Rattle.std.proofs.Common.{◌≡◌, ℕ, ◌≤◌, Bool, true, false, if◌then◌else◌, List, [], ◌∷◌, length, map, refl, sym, ◌∙◌, subst, arith}
+use Rattle.std.specs.List.{AllByRecursion}
+use Rattle.nb_base.specs.declared.line.Line.{Line}
+use Rattle.nb_base.specs.declared.params.Params.{Params}
+use Rattle.nb_base.specs.declared.plan.Plan.{Plan}
+use Rattle.nb_base.specs.Params.{InRange}
+use Rattle.nud_machine.specs.Asked.{greatest}
+use Rattle.nb_journal.specs.Keys.{is_own}
+use Rattle.nb_journal.specs.Lawful.{last_moment}
+use Rattle.nb_journal.specs.Evaluated.{gives_settable, give_settable, IsShort, IsStepped}
+use Rattle.nb_journal.proofs.Decides.{and_both}
+use Rattle.nb_journal.proofs.Stepped.{lawful_stepped}
+use Rattle.neigh_run.specs.Inline.{own_lines, ends_own, entered_line, journal_at, IsInlineJournal, AreInlineJournals, IsInlineRun}
+use Rattle.neigh_run.specs.declared.run.Run.{Run}
+use Rattle.neigh_replay.specs.Inline.{most_lines, last_item_at, has_given_ops}
+use Rattle.neigh_replay.proofs.Orders.{Each}
+use Rattle.neigh_replay.proofs.Placed.{operations}
+use Rattle.neigh_replay.proofs.Tasks.{IsUpTo, IsTaken, early_merged, taken_merged}
+use Rattle.neigh_replay.proofs.InlineRuns.{merged_for-one}
+
+-- ---- the last moment
+
+-- a journal that ends with an operation ends no later than its operations
+last_upto : (m : ℕ) (lines : List Line) → ends_own lines ≡ true → Each (IsUpTo m) (operations lines) → last_moment lines ≤ m
+last_upto m [] e all = omega arith
+last_upto m (l ∷ []) e all = (subst (λ (b : Bool). Each (IsUpTo m) (map entered_line (if b then l ∷ [] else []))) e all).0
+last_upto m (l ∷ next ∷ ls) e all = by_test (is_own l.op) all (λ rest. last_upto m (next ∷ ls) e rest) where
+  by_test : (b : Bool) → Each (IsUpTo m) (map entered_line (if b then l ∷ own_lines (next ∷ ls) else own_lines (next ∷ ls))) → (Each (IsUpTo m) (operations (next ∷ ls)) → last_moment (next ∷ ls) ≤ m) → last_moment (next ∷ ls) ≤ m
+  by_test true h rest = rest h.1
+  by_test false h rest = rest h
+
+-- ---- the operations
+
+taken_settable : (lines : List Line) → Each IsTaken (operations lines) → give_settable (own_lines lines) ≡ true
+taken_settable [] all = refl
+taken_settable (l ∷ ls) all = by_test (is_own l.op) all (λ rest. taken_settable ls rest) where
+  by_test : (b : Bool) → Each IsTaken (map entered_line (if b then l ∷ own_lines ls else own_lines ls)) → (Each IsTaken (operations ls) → give_settable (own_lines ls) ≡ true) → give_settable (if b then l ∷ own_lines ls else own_lines ls) ≡ true
+  by_test true h rest = and_both (gives_settable l.op) (give_settable (own_lines ls)) h.0.1 (rest h.1)
+  by_test false h rest = rest h
+
+-- ---- the run
+
+-- what a report's text asks of a run
+pub record HasText (run : Run) : Type 0 where
+  pub params : InRange run.plan.params
+  pub few : AllByRecursion IsShort run.journals
+  pub steps : AllByRecursion (IsStepped run.plan.params) run.journals
+
+-- what is asked of its one journal
+record HasSteps (p : Params) (journals : List (List Line)) : Type 0 where
+  few : AllByRecursion IsShort journals
+  steps : AllByRecursion (IsStepped p) journals
+
+journal_steps : (plan : Plan) (journal : List Line) → plan.buckets ≡ 1 → last_item_at plan ≤ greatest → has_given_ops plan ≡ true → IsInlineJournal plan 0 journal → IsStepped plan.params journal
+journal_steps plan journal one le given h =
+    let all = h.entered ∙ merged_for-one plan one in
+    let last = last_upto (last_item_at plan) journal h.ends (subst (Each (IsUpTo (last_item_at plan))) (sym all) (early_merged plan)) in
+    lawful_stepped plan.params journal (last_moment journal) h.lawful (omega (arith, last, le)) (taken_settable journal (subst (Each IsTaken) (sym all) (taken_merged plan given)))
+
+one_journal : (plan : Plan) (journals : List (List Line)) → plan.buckets ≡ 1 → last_item_at plan ≤ greatest → has_given_ops plan ≡ true → length journals ≡ 1 → AreInlineJournals plan 0 journals → length (journal_at journals 0) ≤ most_lines → HasSteps plan.params journals
+one_journal plan [] one le given long h few = absurd (omega (arith, long))
+one_journal plan (journal ∷ []) one le given long h few = record { few = (omega (arith, few), tt); steps = (journal_steps plan journal one le given h.0, tt) }
+one_journal plan (journal ∷ other ∷ more) one le given long h few = absurd (omega (arith, long))
+
+pub run_has_text : (plan : Plan) (run : Run) → InRange plan.params → plan.buckets ≡ 1 → last_item_at plan ≤ greatest → has_given_ops plan ≡ true → IsInlineRun plan run → length (journal_at run.journals 0) ≤ most_lines → HasText run
+run_has_text plan run r one le given inline few =
+    let has = one_journal plan run.journals one le given (inline.buckets ∙ one) inline.journals few in
+    record {
+      params = subst (λ (p : Plan). InRange p.params) (sym inline.plan) r;
+      few = has.few;
+      steps = subst (λ (p : Plan). AllByRecursion (IsStepped p.params) run.journals) (sym inline.plan) has.steps;
+    }

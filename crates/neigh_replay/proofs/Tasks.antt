@@ -1,0 +1,138 @@
+-- The operations of a plan in merged order are such as a bucket takes: early enough, own, with states that may be given, and by moment.
+use Rattle.std.proofs.Common.{◌≡◌, ℕ, zero, suc, ◌+◌, ◌<◌, ◌≤◌, true, List, [], ◌∷◌, ◌++◌, length, map, take, get_or, refl, sym, ◌∙◌, ap, subst, arith}
+use Rattle.std.specs.Prelude.{◌&&◌, not, flat_map, Result, Err}
+use Rattle.std.specs.List.{list_all, AllByRecursion}
+use Rattle.std.proofs.lemmas.Bool.{and_parts}
+use Rattle.std.proofs.lemmas.List.{length-map}
+use Rattle.nb_base.specs.declared.op.Op.{Op}
+use Rattle.nb_base.specs.declared.line.Line.{Line}
+use Rattle.nb_base.specs.declared.params.Params.{Params}
+use Rattle.nb_base.specs.declared.plan.Plan.{Plan}
+use Rattle.nb_base.specs.declared.plan.SendItem.{SendItem}
+use Rattle.nb_base.specs.declared.plan.ControlItem.{ControlItem}
+use Rattle.nb_base.specs.declared.plan.ControlItem.TheVariants as control
+use Rattle.nud_machine.specs.Asked.{greatest}
+use Rattle.nb_journal.specs.Keys.{is_own, is_send}
+use Rattle.nb_journal.specs.Evaluated.{gives_settable}
+use Rattle.nb_journal.specs.Lawful.{last_moment}
+use Rattle.nb_journal.specs.Accounts.{line_bound}
+use Rattle.neigh_run.specs.Merged.{Entered, control_ops, sender_ops, senders_ops, merged}
+use Rattle.neigh_run.specs.Plan.{RisesFrom, control_at, send_at}
+use Rattle.neigh_replay.specs.declared.fail.ReplayFail.{ReplayFail}
+use Rattle.neigh_replay.specs.Inline.{most_lines, greatest_of, last_item_at, is_given_op, has_given_ops, plan_bound}
+use Rattle.neigh_replay.specs.Merging.{line_of, lines_of, line_at}
+use Rattle.neigh_replay.specs.Answered.{IsTask}
+use Rattle.neigh_replay.proofs.Orders.{Each, each_append, each_all}
+
+-- ---- moments
+
+pub greatest-left : (xs ys : List ℕ) → greatest_of xs ≤ greatest_of (xs ++ ys)
+greatest-left [] ys = omega arith
+greatest-left (x ∷ xs) ys = let rest = greatest-left xs ys in omega (arith, rest)
+
+pub greatest-right : (xs ys : List ℕ) → greatest_of ys ≤ greatest_of (xs ++ ys)
+greatest-right [] ys = omega arith
+greatest-right (x ∷ xs) ys = let rest = greatest-right xs ys in omega (arith, rest)
+
+-- no later than a moment
+abbrev pub IsUpTo : ℕ → Entered → Type 0
+IsUpTo m x = x.at ≤ m
+
+early_control : (n m : ℕ) (items : List ControlItem) → greatest_of (map control_at items) ≤ m → Each (IsUpTo m) (control_ops n items)
+early_control n m [] le = tt
+early_control n m (control.Neigh at o ∷ items) le = (omega (arith, le), early_control (n + 1) m items (omega (arith, le)))
+early_control n m (control.Frame at bytes ∷ items) le = early_control (n + 1) m items (omega (arith, le))
+early_control n m (control.Proxy at key add ∷ items) le = early_control (n + 1) m items (omega (arith, le))
+
+early_sender : (p n m : ℕ) (items : List SendItem) → greatest_of (map send_at items) ≤ m → Each (IsUpTo m) (sender_ops p n items)
+early_sender p n m [] le = tt
+early_sender p n m (x ∷ xs) le = (omega (arith, le), early_sender p (n + 1) m xs (omega (arith, le)))
+
+early_senders : (p m : ℕ) (senders : List (List SendItem)) → greatest_of (flat_map (map send_at) senders) ≤ m → Each (IsUpTo m) (senders_ops p senders)
+early_senders p m [] le = tt
+early_senders p m (items ∷ senders) le =
+    let left = greatest-left (map send_at items) (flat_map (map send_at) senders) in
+    let right = greatest-right (map send_at items) (flat_map (map send_at) senders) in
+    each_append (IsUpTo m) (sender_ops p 1 items) (senders_ops (p + 1) senders) (early_sender p 1 m items (omega (arith, left, le))) (early_senders (p + 1) m senders (omega (arith, right, le)))
+
+-- no operation lies behind the last item
+pub early_merged : (plan : Plan) → Each (IsUpTo (last_item_at plan)) (merged plan)
+unfolding last_item_at
+early_merged plan =
+    let left = greatest-left (map control_at plan.control) (flat_map (map send_at) plan.senders) in
+    let right = greatest-right (map control_at plan.control) (flat_map (map send_at) plan.senders) in
+    each_all (IsUpTo (last_item_at plan)) [] (control_ops 1 plan.control ++ senders_ops 1 plan.senders) tt
+    (each_append (IsUpTo (last_item_at plan)) (control_ops 1 plan.control) (senders_ops 1 plan.senders) (early_control 1 (last_item_at plan) plan.control left) (early_senders 1 (last_item_at plan) plan.senders right))
+
+-- ---- operations
+
+-- an operation that a bucket takes
+abbrev pub IsTaken : Entered → Type 0
+IsTaken x = (is_own x.op ≡ true) × (gives_settable x.op ≡ true)
+
+given_parts : (o : Op) → is_given_op o ≡ true → (is_own o ≡ true) × (gives_settable o ≡ true)
+given_parts o h =
+    let parts = and_parts (is_own o) (not (is_send o) && gives_settable o) h in
+    (parts.0, (and_parts (not (is_send o)) (gives_settable o) parts.1).1)
+
+given_each : (xs : List Entered) → list_all (λ x. is_given_op x.op) xs ≡ true → Each IsTaken xs
+given_each [] h = tt
+given_each (x ∷ xs) h = let parts = and_parts (is_given_op x.op) (list_all (λ y. is_given_op y.op) xs) h in (given_parts x.op parts.0, given_each xs parts.1)
+
+taken_sender : (p n : ℕ) (items : List SendItem) → Each IsTaken (sender_ops p n items)
+taken_sender p n [] = tt
+taken_sender p n (x ∷ xs) = ((refl, refl), taken_sender p (n + 1) xs)
+
+taken_senders : (p : ℕ) (senders : List (List SendItem)) → Each IsTaken (senders_ops p senders)
+taken_senders p [] = tt
+taken_senders p (items ∷ rest) = each_append IsTaken (sender_ops p 1 items) (senders_ops (p + 1) rest) (taken_sender p 1 items) (taken_senders (p + 1) rest)
+
+pub taken_merged : (plan : Plan) → has_given_ops plan ≡ true → Each IsTaken (merged plan)
+unfolding has_given_ops
+taken_merged plan h =
+    each_all IsTaken [] (control_ops 1 plan.control ++ senders_ops 1 plan.senders) tt
+    (each_append IsTaken (control_ops 1 plan.control) (senders_ops 1 plan.senders) (given_each (control_ops 1 plan.control) h) (taken_senders 1 plan.senders))
+
+-- ---- their lines
+
+tasks_of : (m : ℕ) (xs : List Entered) → m ≤ greatest → Each (IsUpTo m) xs → Each IsTaken xs → AllByRecursion IsTask (lines_of xs)
+tasks_of m [] le early taken = tt
+tasks_of m (x ∷ xs) le early taken = let at = early.0 in (record { now = omega (arith, at, le); own = taken.0.0; settable = taken.0.1 }, tasks_of m xs le early.1 taken.1)
+
+pub tasks_merged : (plan : Plan) → last_item_at plan ≤ greatest → has_given_ops plan ≡ true → AllByRecursion IsTask (lines_of (merged plan))
+tasks_merged plan le h = tasks_of (last_item_at plan) (merged plan) le (early_merged plan) (taken_merged plan h)
+
+-- a line no later than a moment
+abbrev pub LineIsUpTo : ℕ → Line → Type 0
+LineIsUpTo m line = line.at ≤ m
+
+early_lines : (m : ℕ) (xs : List Entered) → Each (IsUpTo m) xs → AllByRecursion (LineIsUpTo m) (lines_of xs)
+early_lines m [] early = tt
+early_lines m (x ∷ xs) early = (early.0, early_lines m xs early.1)
+
+pub upto_merged : (plan : Plan) → AllByRecursion (LineIsUpTo (last_item_at plan)) (lines_of (merged plan))
+upto_merged plan = early_lines (last_item_at plan) (merged plan) (early_merged plan)
+
+-- the line bound of the lines is the plan's
+pub bound_is : (plan : Plan) → line_bound plan.params (length (lines_of (merged plan))) (last_item_at plan) ≡ plan_bound plan
+unfolding plan_bound
+bound_is plan = ap (λ (n : ℕ). line_bound plan.params n (last_item_at plan)) (length-map (merged plan) line_of)
+
+-- ---- one after the other
+
+-- a line doesn't lie before those that it follows
+pub behind_first : (lines : List Line) (m i : ℕ) (line : Line) → RisesFrom m (map line_at lines) → i < length lines → line ≡ get_or lines i line → last_moment (take i lines) ≤ line.at
+behind_first [] m i line h lt at = absurd (omega (arith, lt))
+behind_first (x ∷ xs) m zero line h lt at = omega arith
+behind_first (x ∷ []) m (suc i) line h lt at = absurd (omega (arith, lt))
+behind_first (x ∷ y ∷ ys) m (suc zero) line h lt at = subst (λ (l : Line). x.at ≤ l.at) (sym at) h.1.0
+behind_first (x ∷ y ∷ ys) m (suc (suc i)) line h lt at = behind_first (y ∷ ys) x.at (suc i) line h.1 (omega (arith, lt)) at
+
+-- the line bound of what was entered is the plan's
+pub bound_for : (plan : Plan) (params : Params) (lines : List Line) → params ≡ plan.params → lines ≡ lines_of (merged plan) → most_lines ≤ line_bound params (length lines) (last_item_at plan) → most_lines ≤ plan_bound plan
+bound_for plan params lines e f le =
+    subst (λ (n : ℕ). most_lines ≤ n) (ap (λ (p : Params). line_bound p (length lines) (last_item_at plan)) e ∙ ap (λ (ls : List Line). line_bound plan.params (length ls) (last_item_at plan)) f ∙ bound_is plan) le
+
+-- a result has one failure
+pub same_fail : {X : Type 0} (r : Result X ReplayFail) (a b : ReplayFail) → r ≡ Err a → r ≡ Err b → a ≡ b
+same_fail {X = X} r a b ea eb = let e : ◌≡◌ {A = Result X ReplayFail} (Err a) (Err b) = sym ea ∙ eb in cc

@@ -1,0 +1,39 @@
+-- What the replay of a plan by one thread asks of the plan, and how many lines its journal can get.
+use Rattle.std.specs.Prelude.{ℕ, Bool, ◌&&◌, not, max, List, [], ◌∷◌, ◌++◌, map, flat_map, length}
+use Rattle.std.specs.List.{list_all}
+use Rattle.nb_base.specs.declared.op.Op.{Op}
+use Rattle.nb_base.specs.declared.plan.Plan.{Plan}
+use Rattle.nb_journal.specs.Keys.{is_own, is_send}
+use Rattle.nb_journal.specs.Evaluated.{gives_settable}
+use Rattle.nb_journal.specs.Accounts.{line_bound}
+use Rattle.neigh_run.specs.Merged.{control_ops, merged}
+use Rattle.neigh_run.specs.Plan.{control_at, send_at}
+
+-- the most lines of a journal: 2^22
+abbrev pub most_lines : ℕ
+most_lines = 4_194_304
+
+-- the greatest of moments, or 0 where there is none
+abbrev pub greatest_of : List ℕ → ℕ
+greatest_of [] = 0
+greatest_of (at ∷ moments) = max at (greatest_of moments)
+
+-- the moments of all items of a plan
+abbrev pub moments_of : Plan → List ℕ
+moments_of plan = map control_at plan.control ++ flat_map (map send_at) plan.senders
+
+-- the greatest of them, or 0
+unfoldable pub last_item_at : Plan → ℕ
+last_item_at plan = greatest_of (moments_of plan)
+
+-- an operation that participant 0 may have: no packet, none of the bucket's own, and it gives only states that may be given by hand
+abbrev pub is_given_op : Op → Bool
+is_given_op o = is_own o && (not (is_send o) && gives_settable o)
+
+-- and each of participant 0 is such a one
+unfoldable pub has_given_ops : Plan → Bool
+has_given_ops plan = list_all (λ x. is_given_op x.op) (control_ops 1 plan.control)
+
+-- the most lines that the plan's journal can have
+unfoldable pub plan_bound : Plan → ℕ
+plan_bound plan = line_bound plan.params (length (merged plan)) (last_item_at plan)

@@ -1,0 +1,79 @@
+//! What a bucket answers to the operations of a plan, one after the other.
+ghost use Rattle.std.specs.Prelude.{◌≡◌, ℕ, ◌≤◌, ◌<◌, List, [], ◌∷◌, ◌++◌, length, Err, IfOk, OnOk};
+ghost use Rattle.std.specs.List.{AllByRecursion};
+ghost use Rattle.nb_base.specs.declared.line.Line.{Line};
+ghost use Rattle.nb_base.specs.Params.{InRange};
+ghost use Rattle.nb_journal.specs.Accounts.{line_bound};
+ghost use Rattle.neigh_replay.specs.Merging.{AreByMoment};
+ghost use Rattle.neigh_replay.specs.Inline.{most_lines};
+ghost use Rattle.neigh_replay.specs.Answered.{IsTask, HasEntered};
+
+use crate::fail::ReplayFail;
+use nb_base::{Items, Line, Moment, OpId, Reply};
+use nb_bucket::{Bucket, BucketFail};
+use nb_journal::id_of;
+use std::alloc::Global;
+
+/// What was answered to an operation: its number and its moment, its place in the journal, and the reply.
+#[derive(Clone, Copy, Debug, PartialEq, Eq)]
+pub struct Answer {
+    pub id: OpId,
+    pub at: Moment,
+    pub place: u32,
+    pub reply: Reply,
+}
+
+/// Enters the operation of a line that doesn't lie before the bucket's clock, and appends what is answered.
+/// Without room for what comes next, the line bound is at least 2^22.
+fn enter_next(
+    alloc: Global,
+    bucket: &mut Bucket,
+    answers: &mut Items<Answer>,
+    line: &Line,
+) -> Result<(), ReplayFail>
+    requires params { InRange bucket.old.params }
+    requires task { IsTask line.now }
+    requires later { bucket.old.clock ≤ line.now.at }
+    ensures params { OnOk result (bucket.new.params ≡ bucket.old.params) }
+    ensures entered { (before : List Line) → HasEntered before bucket.old answers.old → OnOk result (HasEntered (before ++ line.now ∷ []) bucket.new answers.new) }
+    ensures too_large { (before : List Line) (moment operations : ℕ) → result ≡ Err ReplayFail.TooLarge → HasEntered before bucket.old answers.old
+        → line.now.at ≤ moment → length before < operations → most_lines ≤ line_bound bucket.old.params operations moment }
+{
+    let id = id_of(line);
+    match bucket.enter(alloc, line.at, id, line.op) {
+        Ok((place, reply)) => {
+            answers.push(Answer {
+                id,
+                at: line.at,
+                place,
+                reply,
+            })?;
+            Ok(())
+        }
+        Err(BucketFail::JournalFull { .. }) => Err(ReplayFail::TooLarge),
+        Err(BucketFail::Memory) => Err(ReplayFail::Memory),
+    }
+}
+
+/// Enters the operations of lines by moment into a new bucket, one after the other.
+/// Without room for all of them, the line bound is at least 2^22.
+pub(crate) fn enter_all(
+    alloc: Global,
+    bucket: &mut Bucket,
+    lines: &[Line],
+) -> Result<Items<Answer>, ReplayFail>
+    requires params { InRange bucket.old.params }
+    requires new { HasEntered [] bucket.old [] }
+    requires tasks { AllByRecursion IsTask lines.now }
+    requires by_moment { AreByMoment lines.now }
+    ensures params { IfOk result (λ _. bucket.new.params ≡ bucket.old.params) }
+    ensures entered { IfOk result (HasEntered lines.now bucket.new) }
+    ensures too_large { (moment : ℕ) → result ≡ Err ReplayFail.TooLarge → AllByRecursion (λ (line : Line). line.at ≤ moment) lines.now
+        → most_lines ≤ line_bound bucket.old.params (length lines.now) moment }
+{
+    let mut answers = Items::new(alloc);
+    for line in lines {
+        enter_next(alloc, bucket, &mut answers, line)?;
+    }
+    Ok(answers)
+}
