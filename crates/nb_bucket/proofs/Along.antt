@@ -1,13 +1,12 @@
 -- Journals that go on by time, one after another.
-use Rattle.std.proofs.Common.{◌≡◌, ℕ, ◌+◌, ◌<◌, ◌≤◌, Bool, true, ◌&&◌, List, [], ◌∷◌, ◌++◌, length, max, refl, sym, ◌∙◌, ap, subst, arith, append_assoc, append-nil}
-use Rattle.std.specs.List.{list_all}
+use Rattle.std.proofs.Common.{◌≡◌, ℕ, ◌≤◌, List, [], ◌∷◌, ◌++◌, refl, sym, ◌∙◌, ap, subst, arith, append_assoc, append-nil}
 use Rattle.std.proofs.lemmas.List.Folds.{list_all-append}
 use Rattle.nb_base.specs.declared.params.Params.{Params}
 use Rattle.nb_base.specs.declared.line.Line.{Line}
 use Rattle.nb_journal.specs.Lawful.{last_moment}
 use Rattle.nb_bucket.specs.declared.fail.BucketFail.{BucketFail}
 use Rattle.nb_bucket.specs.declared.fail.BucketFail.TheVariants.{JournalFull, Memory}
-use Rattle.nb_bucket.specs.Bucket.{Journal, is_by_time, GoesOn, ComesNext, Timer, Sweep, HasNoRoom, HasCause, clock_behind, Refuses}
+use Rattle.nb_bucket.specs.Bucket.{Journal, is_by_time, GoesOn, ComesNext, Timer, Sweep, HasCause, clock_behind, Refuses}
 use Rattle.nb_bucket.specs.Going.{GoesOneOn, GoesAlong}
 
 last_moment-append : (xs ys : List Line) (y : Line) → last_moment (xs ++ y ∷ ys) ≡ last_moment (y ∷ ys)

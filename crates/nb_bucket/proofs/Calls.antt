@@ -1,5 +1,5 @@
 -- What an operation's call answers, from the way to its moment and its lines at it.
-use Rattle.std.proofs.Common.{◌≡◌, ℕ, ◌+◌, List, [], ◌∷◌, ◌++◌, max, Some, Result, Ok, Err, refl, sym, ◌∙◌, ap, subst}
+use Rattle.std.proofs.Common.{◌≡◌, ℕ, ◌++◌, max, Some, Result, Ok, Err, sym, ap, subst}
 use Rattle.std.specs.Prelude.{IfErr, OnErr}
 use Rattle.nb_base.specs.declared.time.OpId.{OpId}
 use Rattle.nb_base.specs.declared.params.Params.{Params}

@@ -1,5 +1,5 @@
 -- The collects of a forced pass: what they leave, and the order of making behind them.
-use Rattle.std.proofs.Common.{◌≡◌, ⊎_elim, ℕ, ◌+◌, ◌≤◌, ◌-◌, Bool, true, false, ◌||◌, ◌&&◌, is_some, nat_lt, if◌then◌else◌, List, [], ◌∷◌, ◌++◌, length, Option, Some, None, refl, sym, ◌∙◌, ap, subst, arith, append_assoc, append-nil}
+use Rattle.std.proofs.Common.{◌≡◌, ℕ, ◌≤◌, ◌-◌, Bool, true, false, is_some, nat_lt, if◌then◌else◌, List, [], ◌∷◌, ◌++◌, length, Option, Some, None, refl, sym, ◌∙◌, ap, subst, arith, append_assoc, append-nil}
 use Rattle.std.specs.Prelude.{map, filter}
 use Rattle.std.specs.Option.{option_to_list}
 use Rattle.std.proofs.lemmas.Bool.{false≢true}
@@ -10,9 +10,9 @@ use Rattle.nb_base.specs.declared.line.Line.{Line}
 use Rattle.nud_machine.specs.declared.event.Event.TheVariants as event
 use Rattle.nud_machine.specs.State.{State}
 use Rattle.nb_journal.specs.Keys.{is_key}
-use Rattle.nb_journal.specs.Fold.{if_so, meet, state_of, is_present, present_count}
-use Rattle.nb_journal.specs.Lawful.{base_of, making, is_pass_due, last_pass, making_order, is_collectable, collected, collect_line, collects}
-use Rattle.nb_journal.specs.Evaluated.{has_key, has_pass, taken_by_pass, asked_of_pass}
+use Rattle.nb_journal.specs.Fold.{if_so, meet, state_of, is_present}
+use Rattle.nb_journal.specs.Lawful.{base_of, making, last_pass, making_order, collected, collect_line, collects}
+use Rattle.nb_journal.specs.Evaluated.{has_pass, taken_by_pass, asked_of_pass}
 use Rattle.nb_journal.proofs.Changes.{change-other}
 use Rattle.nb_journal.proofs.Lines.{by_last}
 use Rattle.nb_journal.proofs.Folds.{state_of-snoc, making_order-nil, making_order-snoc, filter_within}

@@ -12,7 +12,7 @@ use Rattle.nb_base.specs.Params.{InRange}
 use Rattle.nud_machine.specs.Asked.{greatest}
 use Rattle.nb_journal.specs.Keys.{is_own}
 use Rattle.nb_journal.specs.Fold.{present_count, reply_of}
-use Rattle.nb_journal.specs.Lawful.{is_before_sweep, before_sweep, base_of, making, is_pass_due, last_pass, making_order, collect_line, collects, full_of, IsLawful}
+use Rattle.nb_journal.specs.Lawful.{before_sweep, base_of, making, is_pass_due, last_pass, making_order, collect_line, collects, full_of, IsLawful}
 use Rattle.nb_journal.specs.Evaluated.{has_pass, asked_of_pass}
 use Rattle.nb_journal.specs.Laws as laws
 use Rattle.nb_journal.proofs.Folds.{last_pass-snoc}

@@ -1,5 +1,5 @@
 -- The next timer is that of the first of the least dues.
-use Rattle.std.proofs.Common.{◌≡◌, ◌≤◌, ◌<◌, ⊎_elim, ℕ, zero, suc, ◌+◌, Bool, true, false, if◌then◌else◌, List, [], ◌∷◌, length, map, get_or, slice_get, Option, Some, None, add-one, refl, sym, ◌∙◌, ap, subst, arith}
+use Rattle.std.proofs.Common.{◌≡◌, ◌<◌, ⊎_elim, ℕ, zero, suc, ◌+◌, Bool, true, false, if◌then◌else◌, List, [], ◌∷◌, length, map, get_or, slice_get, Option, Some, None, add-one, refl, sym, ◌∙◌, ap, subst, arith}
 use Rattle.std.specs.Option.{option_map}
 use Rattle.std.proofs.lemmas.Bool.{false≢true}
 use Rattle.std.proofs.lemmas.Option.{slice_get-map, slice_get-get_or}
@@ -15,7 +15,6 @@ use Rattle.nb_journal.specs.Lawful.{due_of, NothingDue, IsNextDue}
 use Rattle.nb_journal.specs.Evaluated.{state_in, has_key}
 use Rattle.nb_journal.proofs.Changes.{is_key-same}
 use Rattle.nb_journal.proofs.Dues.{DuesFrom, nothing_due-from, nothing_overdue-from}
-use Rattle.nb_journal.proofs.Grows.{is_key-one}
 use Rattle.nb_journal.proofs.Counts.{AreDistinct, key_cases, known_keys-distinct, state_of-unknown}
 use Rattle.nb_bucket.specs.Dues.{dues_of, IsLeastDue, HasNoDue}
 use Rattle.nb_bucket.proofs.Best.{within_length}

@@ -1,4 +1,4 @@
-use Rattle.std.proofs.Common.{◌≡◌, ◌<◌, drop, length, ap, arith}
+use Rattle.std.proofs.Common.{◌<◌, drop, length, ap, arith}
 use Rattle.nb_base.specs.declared.params.Params.{Params}
 use Rattle.nb_base.specs.declared.key.Key.{Key}
 use Rattle.nb_journal.specs.Fold.{state_of}

@@ -1,4 +1,4 @@
-use Rattle.std.proofs.Common.{◌≡◌, ◌<◌, List, length, refl, ap, arith, rules}
+use Rattle.std.proofs.Common.{◌<◌, List, length, refl, ap, arith, rules}
 use Rattle.nb_base.specs.declared.key.Key.{Key}
 use Rattle.nb_bucket.proofs.NextTimer.{none_due, none_before_least, rank_within, least_is_next_at}
 use Rattle.nb_bucket.proofs.soonest.next_timer.Goals as goal

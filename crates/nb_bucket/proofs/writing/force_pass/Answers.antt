@@ -1,6 +1,6 @@
-use Rattle.std.proofs.Common.{sym, ◌∙◌, subst}
+use Rattle.std.proofs.Common.{sym}
 use Rattle.nb_journal.proofs.Orders.{order-is}
-use Rattle.nb_bucket.specs.Entering.{AreDistinct, victims_of}
+use Rattle.nb_bucket.specs.Entering.{victims_of}
 use Rattle.nb_bucket.proofs.Collects.{order-collects}
 use Rattle.nb_bucket.proofs.PartTaken.{distinct_in}
 use Rattle.nb_bucket.proofs.writing.force_pass.Goals as goal

@@ -1,4 +1,4 @@
-use Rattle.std.proofs.Common.{◌≡◌, ◌++◌, List, [], ◌∷◌, sym, ◌∙◌, append_assoc}
+use Rattle.std.proofs.Common.{◌≡◌, ◌++◌, [], ◌∷◌, sym, ◌∙◌, append_assoc}
 use Rattle.nb_journal.specs.Lawful.{collects, full_of}
 use Rattle.nb_bucket.specs.Entering.{full_line}
 use Rattle.nb_bucket.proofs.Entered.{making-full, base_of-behind, full_of-known}

@@ -1,4 +1,4 @@
-use Rattle.std.proofs.Common.{List, [], Option, is_some, if◌then◌else◌, sym, ap, ◌∙◌}
+use Rattle.std.proofs.Common.{[], Option, is_some, if◌then◌else◌, sym, ap, ◌∙◌}
 use Rattle.std.specs.Option.{option_to_list}
 use Rattle.std.proofs.lemmas.Bool.{false≢true}
 use Rattle.nb_base.specs.declared.key.Key.{Key}

@@ -1,14 +1,13 @@
-use Rattle.std.proofs.Common.{◌≡◌, ◌<◌, ◌≤◌, ◌+◌, ◌&&◌, ℕ, Option, is_some, if◌then◌else◌, Bool, length, refl, ap, ◌∙◌, sym, subst, arith}
+use Rattle.std.proofs.Common.{◌≡◌, ◌≤◌, ◌&&◌, ℕ, Option, is_some, if◌then◌else◌, Bool, length, refl, ap, ◌∙◌, sym, subst, arith}
 use Rattle.std.proofs.lemmas.Result.{err_from_is_err_and}
 use Rattle.nb_base.specs.declared.key.Key.{Key}
-use Rattle.nb_base.specs.Params.{InRange}
 use Rattle.nb_journal.specs.Fold.{present_count}
-use Rattle.nb_journal.specs.Lawful.{making, is_pass_due, IsLawful}
+use Rattle.nb_journal.specs.Lawful.{making, is_pass_due}
 use Rattle.nb_journal.specs.Evaluated.{has_pass}
 use Rattle.nb_bucket.specs.Bucket.{Journal}
 use Rattle.nb_bucket.specs.Keeps.{journal_of}
 use Rattle.nb_bucket.specs.Going.{IsReached}
-use Rattle.nb_bucket.specs.Entering.{bare_line, IsEntered}
+use Rattle.nb_bucket.specs.Entering.{bare_line}
 use Rattle.nb_bucket.proofs.Keeping.{settled-lawful}
 use Rattle.nb_bucket.proofs.Collects.{order-within}
 use Rattle.nb_bucket.proofs.Enters.{keeps-brought, full-entered, is_entered, later_of}

@@ -1,9 +1,8 @@
-use Rattle.std.proofs.Common.{◌≡◌, ◌<◌, ◌≤◌, ◌+◌, ℕ, refl, ap, ◌∙◌, sym, subst, arith}
+use Rattle.std.proofs.Common.{◌≡◌, ◌+◌, refl, ap, ◌∙◌, sym, subst, arith}
 use Rattle.nb_base.specs.declared.params.Params.{Params}
 use Rattle.nb_base.specs.Params.{InRange}
 use Rattle.nb_journal.specs.Lawful.{IsCrowded}
 use Rattle.nb_bucket.specs.Bucket.{Journal}
-use Rattle.nb_bucket.specs.Keeps.{IsNextSweep}
 use Rattle.nb_bucket.specs.Going.{GoesAlong}
 use Rattle.nb_bucket.proofs.Along.{along-same, along-one}
 use Rattle.nb_bucket.proofs.NextSweep.{next-passed, first_behind}

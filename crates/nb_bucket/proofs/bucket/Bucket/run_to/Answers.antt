@@ -1,7 +1,6 @@
-use Rattle.std.proofs.Common.{◌≡◌, ◌<◌, ◌≤◌, ℕ, ap, ◌∙◌, sym, subst, arith, rules}
+use Rattle.std.proofs.Common.{◌≤◌, sym, subst, arith, rules}
 use Rattle.std.proofs.lemmas.Result.{err_from_is_err_and}
 use Rattle.nb_base.specs.declared.params.Params.{Params}
-use Rattle.nb_journal.specs.Lawful.{IsSweepMoment}
 use Rattle.nb_bucket.specs.Keeps.{IsFirstBehind}
 use Rattle.nb_bucket.proofs.Along.{along-same, along-then, along-further, cause-further}
 use Rattle.nb_bucket.proofs.bucket.Bucket.run_to.Goals as goal
