@@ -50,22 +50,22 @@ fn are_replayed_items(items: &[ControlItem]) -> bool
     items.iter().all(|item| is_replayed_item(item))
 }
 
-fn is_plain_send(item: &SendItem) -> bool
-    ensures { result ≡ of.is_plain_send item.now }
+fn goes_to_ip4(item: &SendItem) -> bool
+    ensures { result ≡ of.goes_to_ip4 item.now }
 {
     matches!(item.key, Key::V4(_))
 }
 
-fn are_plain_sends(items: &Items<SendItem>) -> bool
-    ensures { result ≡ list_all of.is_plain_send items.now }
+fn all_go_to_ip4(items: &Items<SendItem>) -> bool
+    ensures { result ≡ list_all of.goes_to_ip4 items.now }
 {
-    items.as_slice().iter().all(|item| is_plain_send(item))
+    items.as_slice().iter().all(|item| goes_to_ip4(item))
 }
 
-fn all_send_plainly(senders: &[Items<SendItem>]) -> bool
-    ensures { result ≡ list_all (λ items. list_all of.is_plain_send items) senders.now }
+fn all_packets_go_to_ip4(senders: &[Items<SendItem>]) -> bool
+    ensures { result ≡ list_all (λ items. list_all of.goes_to_ip4 items) senders.now }
 {
-    senders.iter().all(|items| are_plain_sends(items))
+    senders.iter().all(|items| all_go_to_ip4(items))
 }
 
 fn has_key(keys: &[Key], key: &Key) -> bool
@@ -107,7 +107,7 @@ fn has_replayed_items(plan: &Plan) -> bool
 {
     has_default_collection(&plan.params)
         && are_replayed_items(plan.control.as_slice())
-        && all_send_plainly(plan.senders.as_slice())
+        && all_packets_go_to_ip4(plan.senders.as_slice())
 }
 
 /// Whether the plan is replayed: no captured frame, no proxy line and no IPv6 address is among its items, the parameters of garbage collection have their defaults,

@@ -1,12 +1,10 @@
--- What a script asks of a run, the plans that are plain, and those that are replayed.
-use Rattle.std.specs.Prelude.{ℕ, zero, suc, ◌+◌, ◌≤◌, map, Bool, true, false, ◌&&◌, ◌==◌, nat_le, nat_lt, if◌then◌else◌, List, [], ◌∷◌, ◌++◌, flat_map, fold, length, Some}
+-- What a script asks of a run, and the plans that are replayed.
+use Rattle.std.specs.Prelude.{ℕ, zero, suc, ◌+◌, ◌≤◌, map, Bool, true, false, ◌&&◌, ◌==◌, nat_lt, if◌then◌else◌, List, [], ◌∷◌, flat_map, fold, length}
 use Rattle.std.specs.Option.{option_map_or}
-use Rattle.std.specs.List.{list_any, list_all}
+use Rattle.std.specs.List.{list_all}
 use Rattle.nb_base.specs.declared.key.Key.{Key}
 use Rattle.nb_base.specs.declared.key.Key.TheVariants.{V4, V6}
-use Rattle.nb_base.specs.declared.nud.Nud.TheVariants as nud
 use Rattle.nb_base.specs.declared.op.Op.{Op}
-use Rattle.nb_base.specs.declared.op.Op.TheVariants as op
 use Rattle.nb_base.specs.declared.params.Params.{Params}
 use Rattle.nb_base.specs.Params.{default_params}
 use Rattle.nb_base.specs.declared.plan.Plan.{Plan}
@@ -17,7 +15,7 @@ use Rattle.neigh_script.specs.declared.script.Script.{Script}
 use Rattle.neigh_script.specs.declared.script.ScriptItem.{ScriptItem}
 use Rattle.neigh_script.specs.declared.script.ScriptItem.TheVariants as item
 use Rattle.neigh_script.specs.Context.{at_of}
-use Rattle.nb_journal.specs.Keys.{is_key, key_of}
+use Rattle.nb_journal.specs.Keys.{key_of}
 use Rattle.nb_journal.specs.Fold.{with_key}
 use Rattle.neigh_run.specs.Merged.{Entered, merged}
 
@@ -59,78 +57,18 @@ plan_of script window buckets = record {
   senders = senders_from 1 script.senders script.items;
 }
 
--- ---- plain plans (this project's own): permanent entries are added, and packets go to them
+-- ---- plans that are replayed (this project's own): of their fewer than 128 IPv4 keys no sweep and no forced pass takes one away
 
 abbrev pub has_default_thresholds : Params → Bool
 has_default_thresholds p = p.gc_thresh1 == default_params.gc_thresh1 && p.gc_thresh2 == default_params.gc_thresh2 && p.gc_thresh3 == default_params.gc_thresh3
 
-abbrev pub has_default_times : Params → Bool
-has_default_times p =
-    p.gc_interval == default_params.gc_interval && p.gc_stale_time == default_params.gc_stale_time && p.locktime == default_params.locktime
-    && p.retrans_time == default_params.retrans_time && p.base_reachable_time == default_params.base_reachable_time
-    && p.delay_first_probe_time == default_params.delay_first_probe_time && p.proxy_delay == default_params.proxy_delay
-
-abbrev pub has_default_counts : Params → Bool
-has_default_counts p =
-    p.mcast_solicit == default_params.mcast_solicit && p.ucast_solicit == default_params.ucast_solicit
-    && p.proxy_qlen == default_params.proxy_qlen && p.unres_qlen == default_params.unres_qlen
-
--- every parameter has its default
-abbrev pub has_defaults : Params → Bool
-has_defaults p = has_default_thresholds p && has_default_times p && has_default_counts p
-
--- `neigh add` of an IPv4 address, with a link address and the state permanent
-abbrev pub is_plain_op : Op → Bool
-is_plain_op (op.Add (V4 address) (Some mac) nud.Permanent) = true
-is_plain_op _ = false
-
-abbrev pub is_plain_add : ControlItem → Bool
-is_plain_add (control.Neigh at o) = is_plain_op o
-is_plain_add (control.Frame at bytes) = false
-is_plain_add (control.Proxy at key add) = false
-
--- a packet to an IPv4 address
-abbrev pub is_ip4 : Key → Bool
-is_ip4 (V4 address) = true
-is_ip4 (V6 address) = false
-
-abbrev pub is_plain_send : SendItem → Bool
-is_plain_send item = is_ip4 item.key
-
--- `neigh add` of this key
-abbrev pub adds : Key → Op → Bool
-adds key (op.Add other mac nud) = is_key other key
-adds key _ = false
-
--- among the operations is an `add` of the key
-abbrev pub is_added : List Entered → Key → Bool
-is_added past key = list_any (λ entered. adds key entered.op) past
-
--- a send has an `add` of its key among the operations before it
-abbrev pub finds_its_add : List Entered → Op → Bool
-finds_its_add past (op.Send key) = is_added past key
-finds_its_add past _ = true
-
--- and so has each send behind the past
-abbrev pub each_finds_its_add : List Entered → List Entered → Bool
-each_finds_its_add past [] = true
-each_finds_its_add past (x ∷ xs) = finds_its_add past x.op && each_finds_its_add (past ++ x ∷ []) xs
-
--- every parameter has its default, participant 0's items are at most 127 such `add`s, and every packet goes to an IPv4 address
-abbrev pub has_plain_items : Plan → Bool
-has_plain_items plan =
-    has_defaults plan.params && list_all is_plain_add plan.control && nat_le (length plan.control) 127
-    && list_all (λ items. list_all is_plain_send items) plan.senders
-
--- and in merged order every send has an `add` of its key before it
-unfoldable pub is_plain : Plan → Bool
-is_plain plan = has_plain_items plan && each_finds_its_add [] (merged plan)
-
--- ---- plans that are replayed (this project's own): of their fewer than 128 IPv4 keys no sweep and no forced pass takes one away
-
 -- each parameter of the garbage collection has its default
 abbrev pub has_default_collection : Params → Bool
 has_default_collection p = has_default_thresholds p && p.gc_interval == default_params.gc_interval && p.gc_stale_time == default_params.gc_stale_time
+
+abbrev pub is_ip4 : Key → Bool
+is_ip4 (V4 address) = true
+is_ip4 (V6 address) = false
 
 -- an operation names no IPv6 key
 abbrev pub names_no_ip6 : Op → Bool
@@ -142,11 +80,15 @@ is_replayed_item (control.Neigh at o) = names_no_ip6 o
 is_replayed_item (control.Frame at bytes) = false
 is_replayed_item (control.Proxy at key add) = false
 
+-- a packet to an IPv4 address
+abbrev pub goes_to_ip4 : SendItem → Bool
+goes_to_ip4 item = is_ip4 item.key
+
 -- the parameters of the garbage collection have their defaults, participant 0's items are such operations, and every packet goes to an IPv4 address
 abbrev pub has_replayed_items : Plan → Bool
 has_replayed_items plan =
     has_default_collection plan.params && list_all is_replayed_item plan.control
-    && list_all (λ items. list_all is_plain_send items) plan.senders
+    && list_all (λ items. list_all goes_to_ip4 items) plan.senders
 
 -- the different keys that operations name, in the order of the first operations that name them
 unfoldable pub keys_named : List Entered → List Key
