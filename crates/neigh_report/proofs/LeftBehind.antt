@@ -4,7 +4,7 @@ use Rattle.nb_base.specs.declared.line.Line.{Line}
 use Rattle.nb_base.specs.declared.params.Params.{Params}
 use Rattle.nud_machine.specs.declared.act.Act.{Act}
 use Rattle.nb_journal.specs.Accounts.{acts_at}
-use Rattle.std.specs.Prelude.{map, filter, Option, Result, Ok, Err, OnOk, is_ok, if◌then◌else◌, codes, decimal}
+use Rattle.std.specs.Prelude.{map, filter, Result, Ok, Err, OnOk, is_ok, if◌then◌else◌, codes, decimal}
 use Rattle.std.specs.List.{flat_map, AllByRecursion}
 use Rattle.std.proofs.lemmas.List.{length-map, length-append, flat_map_more}
 use Rattle.std.proofs.Math.Nat.{mul-le-mul_right}
@@ -15,16 +15,12 @@ use Rattle.nb_base.specs.declared.key.Key.{Key}
 use Rattle.nb_base.specs.declared.time.OpId.{OpId}
 use Rattle.nb_base.specs.declared.host.Host.{Host}
 use Rattle.nb_base.specs.declared.plan.Plan.{Plan}
-use Rattle.nb_base.specs.declared.op.Op.{Op}
-use Rattle.nb_base.specs.declared.op.Op.TheVariants as op
 use Rattle.nud_machine.specs.State.{State}
 use Rattle.nb_journal.specs.Evaluated.{state_in, IsStep}
 use Rattle.nb_journal.specs.Fold.{state_of, known_keys, present_count}
 use Rattle.text_codes.specs.Lines.{Words, line_text, text_of}
-use Rattle.neigh_run.specs.Report.{lines_below, line_words, journal_lines, bucket_lines, journal_acts, waiting_after, counted}
+use Rattle.neigh_run.specs.Report.{lines_below, line_words, journal_lines, bucket_lines, journal_acts, counted}
 use Rattle.neigh_run.specs.Entries.{entry_if_present, entries_after, entry_words}
-use Rattle.neigh_run.specs.Spelling.{id_word, op_words, reply_part}
-use Rattle.nb_base.specs.declared.line.Reply.{Reply}
 use Rattle.journal_fold.specs.Taken.{Taken}
 use Rattle.nb_journal.specs.declared.kept.Kept.{Kept}
 use Rattle.neigh_report.specs.Left.{entries, waiting_for, waits, waits_behind, IsShortFold, bucket_of_journal}

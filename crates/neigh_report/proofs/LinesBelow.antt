@@ -1,8 +1,9 @@
 -- What stands below a line.
-use Rattle.std.proofs.Common.{◌≡◌, ℕ, Bool, true, false, ◌<◌, List, [], ◌∷◌, ◌++◌, length, get_or, take, drop, zero, suc, Option, Some, None, refl, sym, ap, subst, ◌∙◌, append-nil, append_assoc, arith}
+use Rattle.std.proofs.Common.{◌≡◌, ℕ, Bool, true, false, List, [], ◌∷◌, ◌++◌, length, Option, Some, None, refl, sym, ap, ◌∙◌, append-nil, append_assoc}
 use Rattle.std.specs.Prelude.{map, decimal, codes, unwrap_or, if◌then◌else◌}
 use Rattle.std.specs.List.{flat_map}
 use Rattle.std.proofs.lemmas.Grind.{flat_map-append}
+use Rattle.std.proofs.lemmas.List.{map-append}
 use Rattle.nb_base.specs.declared.key.Key.{Key}
 use Rattle.nb_base.specs.declared.key.Key.TheVariants.{V4}
 use Rattle.nb_base.specs.declared.time.OpId.{OpId}
@@ -18,17 +19,16 @@ use Rattle.nud_machine.specs.declared.act.Cause.TheVariants.{Removed}
 use Rattle.nud_machine.specs.declared.event.Event.TheVariants as event
 use Rattle.nud_machine.specs.State.{State, Stepped, made, drops}
 use Rattle.nud_machine.specs.Step.{step}
-use Rattle.nb_journal.specs.declared.kept.Kept.{Kept}
 use Rattle.nb_journal.specs.Keys.{is_key, key_of}
-use Rattle.nb_journal.specs.Fold.{Effect, effect, meet, if_so, is_loose, is_swept, state_of, acts_of, change, known_keys, reply_of}
-use Rattle.nb_journal.specs.Evaluated.{state_in, concerns}
+use Rattle.nb_journal.specs.Fold.{effect, meet, if_so, is_loose, is_swept, state_of, acts_of, known_keys, reply_of}
+use Rattle.nb_journal.specs.Evaluated.{concerns}
 use Rattle.nb_journal.specs.Accounts.{acts_at}
 use Rattle.nb_journal.proofs.Changes.{change-other}
 use Rattle.nb_journal.proofs.Changed.{change_met}
 use Rattle.nb_journal.proofs.Grows.{is_key-one}
 use Rattle.text_codes.specs.Lines.{Words, line_text, text_of}
 use Rattle.neigh_run.specs.Spelling.{id_word, op_words, reply_part}
-use Rattle.neigh_run.specs.Report.{act_lines, key_lines, lines_below, line_words}
+use Rattle.neigh_run.specs.Report.{act_line, key_lines, lines_below, line_words}
 use Rattle.neigh_report.specs.Left.{look, named, acts_below}
 
 -- a line that names a key has no acts for another
@@ -36,37 +36,37 @@ none_of : (p : Params) (past : List Line) (line : Line) (key other : Key) → ke
 none_of p past line key other names off = ap (λ (d : Stepped). d.acts) (change-other p line key other (state_of p past other) names off)
 
 -- so the lines of its acts are those of its key
-lines_of : (plan : Plan) (past : List Line) (line : Line) (key : Key) (keys : List Key) → key_of line.op ≡ Some key → flat_map (key_lines plan past line) keys ≡ flat_map (act_lines plan key) (flat_map (acts_of plan.params past line) keys)
+lines_of : (plan : Plan) (past : List Line) (line : Line) (key : Key) (keys : List Key) → key_of line.op ≡ Some key → flat_map (key_lines plan past line) keys ≡ map (act_line plan key) (flat_map (acts_of plan.params past line) keys)
 lines_of plan past line key [] names = refl
 lines_of plan past line key (k ∷ ks) names =
     ap (λ (rows : List Words). key_lines plan past line k ++ rows) (lines_of plan past line key ks names)
-    ∙ ap (λ (rows : List Words). rows ++ flat_map (act_lines plan key) (flat_map (acts_of plan.params past line) ks)) (by_test (is_key key k) refl)
-    ∙ sym (flat_map-append (act_lines plan key) (acts_of plan.params past line k) (flat_map (acts_of plan.params past line) ks)) where
-      by_test : (t : Bool) → is_key key k ≡ t → key_lines plan past line k ≡ flat_map (act_lines plan key) (acts_of plan.params past line k)
-      by_test true e = ap (λ (x : Key). flat_map (act_lines plan x) (acts_of plan.params past line k)) (sym (is_key-one key k e))
-      by_test false e = let none = none_of plan.params past line key k names e in ap (flat_map (act_lines plan k)) none ∙ sym (ap (flat_map (act_lines plan key)) none)
+    ∙ ap (λ (rows : List Words). rows ++ map (act_line plan key) (flat_map (acts_of plan.params past line) ks)) (by_test (is_key key k) refl)
+    ∙ sym (map-append (act_line plan key) (acts_of plan.params past line k) (flat_map (acts_of plan.params past line) ks)) where
+      by_test : (t : Bool) → is_key key k ≡ t → key_lines plan past line k ≡ map (act_line plan key) (acts_of plan.params past line k)
+      by_test true e = ap (λ (x : Key). map (act_line plan x) (acts_of plan.params past line k)) (sym (is_key-one key k e))
+      by_test false e = let none = none_of plan.params past line key k names e in ap (map (act_line plan k)) none ∙ sym (ap (map (act_line plan key)) none)
 
-drops_alike : (plan : Plan) (k other : Key) (ids : List OpId) → flat_map (act_lines plan k) (drops Removed ids) ≡ flat_map (act_lines plan other) (drops Removed ids)
+drops_alike : (plan : Plan) (k other : Key) (ids : List OpId) → map (act_line plan k) (drops Removed ids) ≡ map (act_line plan other) (drops Removed ids)
 drops_alike plan k other [] = refl
-drops_alike plan k other (id ∷ ids) = ap (λ (rows : List Words). act_lines plan other (Drop id Removed) ++ rows) (drops_alike plan k other ids)
+drops_alike plan k other (id ∷ ids) = ap (λ (rows : List Words). act_line plan other (Drop id Removed) ∷ rows) (drops_alike plan k other ids)
 
 removed_alike : (plan : Plan) (k other : Key) (line : Line) (s : State) (b : Bool)
-    → flat_map (act_lines plan k) (meet plan.params line s (if_so b event.Remove)).acts ≡ flat_map (act_lines plan other) (meet plan.params line s (if_so b event.Remove)).acts
+    → map (act_line plan k) (meet plan.params line s (if_so b event.Remove)).acts ≡ map (act_line plan other) (meet plan.params line s (if_so b event.Remove)).acts
 removed_alike plan k other line s false = refl
 removed_alike plan k other line s true = by_test s.entry.present where
-  by_test : (t : Bool) → flat_map (act_lines plan k) (step plan.params line.at (if t then s else made line.at) event.Remove).acts ≡ flat_map (act_lines plan other) (step plan.params line.at (if t then s else made line.at) event.Remove).acts
+  by_test : (t : Bool) → map (act_line plan k) (step plan.params line.at (if t then s else made line.at) event.Remove).acts ≡ map (act_line plan other) (step plan.params line.at (if t then s else made line.at) event.Remove).acts
   by_test true = drops_alike plan k other s.waiting
   by_test false = refl
 
 -- the acts of a line that names no key are drops, whose lines tell no key
-none_named : (plan : Plan) (past : List Line) (line : Line) (k other : Key) → key_of line.op ≡ None → flat_map (act_lines plan k) (acts_of plan.params past line k) ≡ flat_map (act_lines plan other) (acts_of plan.params past line k)
+none_named : (plan : Plan) (past : List Line) (line : Line) (k other : Key) → key_of line.op ≡ None → map (act_line plan k) (acts_of plan.params past line k) ≡ map (act_line plan other) (acts_of plan.params past line k)
 none_named plan past line k other names =
     let s = state_of plan.params past k in
     let met = ap (λ (d : Stepped). d.acts) (change_met plan.params line k s (ap (concerns line k) names)) in
-    ap (flat_map (act_lines plan k)) met ∙ by_op line.op names ∙ sym (ap (flat_map (act_lines plan other)) met) where
+    ap (map (act_line plan k)) met ∙ by_op line.op names ∙ sym (ap (map (act_line plan other)) met) where
       by_op : (o : Op) → key_of o ≡ None
-          → flat_map (act_lines plan k) (meet plan.params line (state_of plan.params past k) (effect plan.params line (state_of plan.params past k) o)).acts
-          ≡ flat_map (act_lines plan other) (meet plan.params line (state_of plan.params past k) (effect plan.params line (state_of plan.params past k) o)).acts
+          → map (act_line plan k) (meet plan.params line (state_of plan.params past k) (effect plan.params line (state_of plan.params past k) o)).acts
+          ≡ map (act_line plan other) (meet plan.params line (state_of plan.params past k) (effect plan.params line (state_of plan.params past k) o)).acts
       by_op op.Show e = refl
       by_op op.Flush e = removed_alike plan k other line (state_of plan.params past k) (is_loose (state_of plan.params past k))
       by_op op.Sweep e = removed_alike plan k other line (state_of plan.params past k) (is_swept plan.params line.at (state_of plan.params past k))
@@ -82,17 +82,17 @@ none_named plan past line k other names =
       by_op (op.Timer key) e = cc
       by_op (op.Collect key) e = cc
 
-lines_of_none : (plan : Plan) (past : List Line) (line : Line) (key : Key) (keys : List Key) → key_of line.op ≡ None → flat_map (key_lines plan past line) keys ≡ flat_map (act_lines plan key) (flat_map (acts_of plan.params past line) keys)
+lines_of_none : (plan : Plan) (past : List Line) (line : Line) (key : Key) (keys : List Key) → key_of line.op ≡ None → flat_map (key_lines plan past line) keys ≡ map (act_line plan key) (flat_map (acts_of plan.params past line) keys)
 lines_of_none plan past line key [] names = refl
 lines_of_none plan past line key (k ∷ ks) names =
     ap (λ (rows : List Words). key_lines plan past line k ++ rows) (lines_of_none plan past line key ks names)
-    ∙ ap (λ (rows : List Words). rows ++ flat_map (act_lines plan key) (flat_map (acts_of plan.params past line) ks)) (none_named plan past line k key names)
-    ∙ sym (flat_map-append (act_lines plan key) (acts_of plan.params past line k) (flat_map (acts_of plan.params past line) ks))
+    ∙ ap (λ (rows : List Words). rows ++ map (act_line plan key) (flat_map (acts_of plan.params past line) ks)) (none_named plan past line k key names)
+    ∙ sym (map-append (act_line plan key) (acts_of plan.params past line k) (flat_map (acts_of plan.params past line) ks))
 
 -- the lines of a line's acts, over the known keys, are those of the key that it names
-acts_lines : (plan : Plan) (past : List Line) (line : Line) (o : Op) → line.op ≡ o → flat_map (key_lines plan past line) (known_keys (past ++ line ∷ [])) ≡ flat_map (act_lines plan (named o)) (acts_at plan.params past line)
+acts_lines : (plan : Plan) (past : List Line) (line : Line) (o : Op) → line.op ≡ o → flat_map (key_lines plan past line) (known_keys (past ++ line ∷ [])) ≡ map (act_line plan (named o)) (acts_at plan.params past line)
 acts_lines plan past line o is = by_key (key_of o) (ap key_of is) where
-  by_key : (named_key : Option Key) → key_of line.op ≡ named_key → flat_map (key_lines plan past line) (known_keys (past ++ line ∷ [])) ≡ flat_map (act_lines plan (unwrap_or named_key (V4 0))) (acts_at plan.params past line)
+  by_key : (named_key : Option Key) → key_of line.op ≡ named_key → flat_map (key_lines plan past line) (known_keys (past ++ line ∷ [])) ≡ map (act_line plan (unwrap_or named_key (V4 0))) (acts_at plan.params past line)
   by_key None e = lines_of_none plan past line (V4 0) (known_keys (past ++ line ∷ [])) e
   by_key (Some key) e = lines_of plan past line key (known_keys (past ++ line ∷ [])) e
 

@@ -10,7 +10,7 @@ use Rattle.nb_base.specs.declared.op.Op.TheVariants as op
 use Rattle.text_codes.specs.Lines.{Words}
 use Rattle.neigh_run.specs.declared.run.Run.{Run}
 use Rattle.neigh_run.specs.Spelling.{host_words}
-use Rattle.neigh_run.specs.Report.{set_in, act_lines, journal_lines, bucket_lines, head_words, host_line_words, sender_lines, mark_words, fates_words, table, proxies, counted}
+use Rattle.neigh_run.specs.Report.{set_in, act_line, journal_lines, bucket_lines, head_words, host_line_words, sender_lines, mark_words, fates_words, table, proxies, counted}
 use Rattle.nud_machine.specs.State.{State}
 use Rattle.neigh_run.specs.Entries.{entry_if_present, entries_after, proxy_words}
 use Rattle.nb_base.specs.declared.time.OpId.{OpId}
@@ -43,7 +43,7 @@ named o = unwrap_or (key_of o) (V4 0)
 -- what stands below every other line
 abbrev pub acts_below : Plan → Op → List Act → List Words
 acts_below plan op.Show acts = []
-acts_below plan o acts = flat_map (act_lines plan (named o)) acts
+acts_below plan o acts = map (act_line plan (named o)) acts
 
 -- the present entries behind journals
 abbrev pub entries : Host → List Taken → List Words

@@ -1,18 +1,14 @@
-//! Frames of packets and of solicitations, written by their codecs.
+//! Frames of packets, whose headers their codec writes.
 ghost use Rattle.std.specs.Prelude.{◌≡◌, ◌++◌, string_bytes, OnOk};
 ghost use Rattle.std.specs.Option.{option_copied};
 ghost use Rattle.text_codes.specs.HexText.{hex_text};
-ghost use Rattle.link_codec.specs.Arp.{arp_bytes};
 ghost use Rattle.link_codec.specs.Ethernet.{eth_bytes};
 ghost use Rattle.neigh_run.specs.Frames as frames;
 
 use crate::words::write_hex;
-use link_codec::{Arp, write_arp, write_eth};
+use link_codec::write_eth;
 use nb_base::{Host, Key, Mac, OpId, Plan, SendItem};
 use std::alloc::AllocError;
-
-/// The Ethernet type of ARP.
-const ARP: u16 = 0x0806;
 
 /// The Ethernet type of the key's family.
 fn type_for(key: &Key) -> u16
@@ -34,7 +30,13 @@ fn packet_of(plan: &Plan, id: OpId) -> Option<&SendItem>
     items.get(item as usize)
 }
 
-fn write_header(report: &mut String, dst: &Mac, src: &Mac, ethertype: u16) -> Result<(), AllocError>
+/// An Ethernet header.
+pub fn write_header(
+    report: &mut String,
+    dst: &Mac,
+    src: &Mac,
+    ethertype: u16,
+) -> Result<(), AllocError>
     ensures { OnOk result (string_bytes report.new ≡ string_bytes report.old ++ hex_text (eth_bytes dst.now src.now ethertype)) }
 {
     let mut header = [0; 14];
@@ -68,39 +70,4 @@ pub fn write_sent_frame(
         None => Ok(()),
         Some(item) => write_frame_to(report, &plan.host, mac, item),
     }
-}
-
-/// The host asks who has the address.
-fn request_for(host: &Host, address: u32) -> Arp
-    ensures { result ≡ frames.request_for host.now address }
-{
-    Arp {
-        op: 1,
-        sha: host.mac,
-        spa: host.ip4.unwrap_or(0),
-        tha: Mac([0; 6]),
-        tpa: address,
-    }
-}
-
-fn request_packet(host: &Host, address: u32) -> [u8; 28]
-    ensures { result ≡ arp_bytes (frames.request_for host.now address) }
-{
-    let mut packet = [0; 28];
-    write_arp(&mut packet, &request_for(host, address));
-    packet
-}
-
-/// The frame in which the request goes from the host to a link address.
-pub fn write_request(
-    report: &mut String,
-    host: &Host,
-    mac: &Mac,
-    address: u32,
-) -> Result<(), AllocError>
-    ensures { OnOk result (string_bytes report.new ≡ string_bytes report.old ++ hex_text (frames.request_frame host.now mac.now address)) }
-{
-    let packet = request_packet(host, address);
-    write_header(report, mac, &host.mac, ARP)?;
-    write_hex(report, &packet)
 }

@@ -1,6 +1,5 @@
 //! The lines of a journal and their acts.
-ghost use Rattle.std.specs.Prelude.{◌≡◌, ◌++◌, ◌∷◌, [], take, string_bytes, codes, decimal, OnOk};
-ghost use Rattle.std.specs.List.{flat_map};
+ghost use Rattle.std.specs.Prelude.{◌≡◌, ◌++◌, ◌∷◌, [], map, take, string_bytes, codes, decimal, OnOk};
 ghost use Rattle.text_codes.specs.Lines.{line_text, text_of};
 ghost use Rattle.neigh_run.specs.Spelling as spelling;
 ghost use Rattle.neigh_run.specs.Spelling.{id_word, op_words, reply_part};
@@ -8,16 +7,14 @@ ghost use Rattle.text_codes.specs.HexText.{hex_text};
 ghost use Rattle.neigh_run.specs.Frames as frames;
 ghost use Rattle.neigh_run.specs.Report as report_of;
 
-use crate::frames::{write_request, write_sent_frame};
+use crate::frames::write_sent_frame;
+use crate::solicitations::{write_group_solicitation, write_unicast_solicitation};
 use crate::spelling::cause_word;
 use crate::words::{add_answer, add_id, add_op};
 use nb_base::{Host, Key, Line, Mac, OpId, Plan, Reply};
 use nud_machine::{Act, Cause};
 use std::alloc::AllocError;
 use std::fmt::Write;
-
-/// The address of all hosts on a link.
-const EVERYONE: Mac = Mac([0xff; 6]);
 
 /// A bucket's number, and how many lines its journal has.
 #[tactic(auto, unfolding(text_codes::specs::Lines::line_text))]
@@ -73,40 +70,40 @@ fn write_drop(report: &mut String, id: OpId, cause: Cause) -> Result<(), AllocEr
 }
 
 #[tactic(auto, unfolding(text_codes::specs::Lines::line_text))]
-fn write_solicitation(
-    report: &mut String,
-    host: &Host,
-    mac: &Mac,
-    address: u32,
-) -> Result<(), AllocError>
-    ensures { OnOk result (string_bytes report.new ≡ string_bytes report.old ++ line_text (report_of.set_in (codes "solicit" ∷ hex_text (frames.request_frame host.now mac.now address) ∷ []))) }
+fn write_solicit_group(report: &mut String, host: &Host, key: &Key) -> Result<(), AllocError>
+    ensures { OnOk result (string_bytes report.new ≡ string_bytes report.old ++ line_text (report_of.set_in (codes "solicit" ∷ hex_text (frames.group_solicitation host.now key.now) ∷ []))) }
 {
     report.push_str("  solicit ")?;
-    write_request(report, host, mac, address)?;
+    write_group_solicitation(report, host, key)?;
     writeln!(report)?;
     Ok(())
 }
 
-/// A solicitation of a key that goes to a link address. For an IPv6 key it isn't spelled yet.
-fn write_solicit(report: &mut String, plan: &Plan, key: &Key, mac: &Mac) -> Result<(), AllocError>
-    ensures { OnOk result (string_bytes report.new ≡ string_bytes report.old ++ text_of (report_of.solicit_lines plan.now key.now mac.now)) }
+#[tactic(auto, unfolding(text_codes::specs::Lines::line_text))]
+fn write_solicit_unicast(
+    report: &mut String,
+    host: &Host,
+    key: &Key,
+    mac: &Mac,
+) -> Result<(), AllocError>
+    ensures { OnOk result (string_bytes report.new ≡ string_bytes report.old ++ line_text (report_of.set_in (codes "solicit" ∷ hex_text (frames.unicast_solicitation host.now key.now mac.now) ∷ []))) }
 {
-    match *key {
-        Key::V4(address) => write_solicitation(report, &plan.host, mac, address),
-        Key::V6(_) => Ok(()),
-    }
+    report.push_str("  solicit ")?;
+    write_unicast_solicitation(report, host, key, mac)?;
+    writeln!(report)?;
+    Ok(())
 }
 
 /// An act of a key's entry.
 fn write_act(report: &mut String, plan: &Plan, key: &Key, act: &Act) -> Result<(), AllocError>
-    ensures { OnOk result (string_bytes report.new ≡ string_bytes report.old ++ text_of (report_of.act_lines plan.now key.now act.now)) }
+    ensures { OnOk result (string_bytes report.new ≡ string_bytes report.old ++ line_text (report_of.act_line plan.now key.now act.now)) }
 {
     match act {
         Act::Transmit(id, mac) => write_transmit(report, plan, *id, mac),
         Act::Wait(id) => write_wait(report, *id),
         Act::Drop(id, cause) => write_drop(report, *id, *cause),
-        Act::SolicitGroup => write_solicit(report, plan, key, &EVERYONE),
-        Act::SolicitUnicast(mac) => write_solicit(report, plan, key, mac),
+        Act::SolicitGroup => write_solicit_group(report, &plan.host, key),
+        Act::SolicitUnicast(mac) => write_solicit_unicast(report, &plan.host, key, mac),
     }
 }
 
@@ -117,7 +114,7 @@ pub fn write_acts(
     key: &Key,
     acts: &[Act],
 ) -> Result<(), AllocError>
-    ensures { OnOk result (string_bytes report.new ≡ string_bytes report.old ++ text_of (flat_map (report_of.act_lines plan.now key.now) acts.now)) }
+    ensures { OnOk result (string_bytes report.new ≡ string_bytes report.old ++ text_of (map (report_of.act_line plan.now key.now) acts.now)) }
 {
     for act in acts {
         write_act(report, plan, key, act)?;

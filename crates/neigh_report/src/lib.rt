@@ -11,6 +11,7 @@ mod host_journal;
 mod journal_lines;
 mod logs;
 mod proxies;
+mod solicitations;
 mod spelling;
 mod tally;
 #[cfg(test)]

@@ -21,6 +21,8 @@ const NINE: Key = Key::V4(0x0a00_0009);
 
 const LINK_LOCAL: Key = Key::V6(0xfe80_0000_0000_0000_0000_0000_0000_0009);
 
+const SIX: Key = Key::V6(0xfe80_0000_0000_0000_0000_0000_0000_0001);
+
 /// One permanent entry and a packet to it.
 const PACKET_REPORT: &str = "\
 neigh 1 mode inline buckets 1 senders 1 window 50
@@ -83,6 +85,35 @@ fe80::9 dev eth0 proxy
 end
 ";
 
+/// An IPv6 address is asked for in its solicited-node group; the entry of its advertisement is probed at its link address.
+const SIX_REPORT: &str = "\
+neigh 1 mode inline buckets 1 senders 1 window 50
+host dev eth0 lladdr 02:00:00:00:00:02 inet6 fe80::2
+bucket 0 lines 5
+0 5 33 send fe80::1 -> waits
+  solicit 3333ff00000102000000000286dd6000000000203afffe800000000000000000000000000002ff0200000000000000000001ff00000187007a9700000000fe8000000000000000000000000000010101020000000002
+  wait 33
+1 1005 - timer fe80::1 -> -
+  solicit 3333ff00000102000000000286dd6000000000203afffe800000000000000000000000000002ff0200000000000000000001ff00000187007a9700000000fe8000000000000000000000000000010101020000000002
+2 1500 32 na fe80::1 00:11:22:33:44:55 --o -> done
+  tx 33 00112233445502000000000286dd6000
+3 2000 65 send fe80::1 -> sent
+  tx 65 00112233445502000000000286dd6000
+4 7000 - timer fe80::1 -> -
+  solicit 00112233445502000000000286dd6000000000203afffe800000000000000000000000000002fe80000000000000000000000000000187007a1b00000000fe8000000000000000000000000000010101020000000002
+host lines 1
+1 1500 frame nd op 0 2 done
+sender 1 items 2
+1 5 inline 0 waits
+2 2000 inline 3 sent
+marks 0
+fates sent 2 fast 0 dropped 0 waiting 0
+table 1
+fe80::1 dev eth0 lladdr 00:11:22:33:44:55 PROBE
+proxies 0
+end
+";
+
 fn bytes(alloc: Global, bytes: &[u8]) -> Result<Bytes, AllocError> {
     Ok(Items::from_vec(Vec::from_slice(alloc, bytes)?))
 }
@@ -121,14 +152,19 @@ fn full(line: Line, seen: u32) -> Line {
     }
 }
 
-/// So many packets of the bytes 45 00 to 10.0.0.1 at 5.
-fn packets(alloc: Global, count: usize) -> Result<Items<SendItem>, AllocError> {
+/// A packet of two bytes to a key at each of the moments.
+fn packets(
+    alloc: Global,
+    key: Key,
+    payload: [u8; 2],
+    moments: &[u64],
+) -> Result<Items<SendItem>, AllocError> {
     let mut items = Items::new(alloc);
-    for _ in 0..count {
+    for at in moments {
         items.push(SendItem {
-            at: Moment(5),
-            key: ONE,
-            payload: bytes(alloc, &[0x45, 0x00])?,
+            at: Moment(*at),
+            key,
+            payload: bytes(alloc, &payload)?,
         })?;
     }
     Ok(items)
@@ -202,6 +238,23 @@ fn form_lines(alloc: Global) -> Result<Items<Line>, AllocError> {
     Ok(lines)
 }
 
+fn six_lines(alloc: Global) -> Result<Items<Line>, AllocError> {
+    let na = Op::Na {
+        key: SIX,
+        mac: Some(A),
+        router: false,
+        solicited: false,
+        overrides: true,
+    };
+    let mut lines = Items::new(alloc);
+    lines.push(own(5, 33, Op::Send { key: SIX }))?;
+    lines.push(bare(1005, Op::Timer { key: SIX }))?;
+    lines.push(own(1500, 32, na))?;
+    lines.push(own(2000, 65, Op::Send { key: SIX }))?;
+    lines.push(bare(7000, Op::Timer { key: SIX }))?;
+    Ok(lines)
+}
+
 fn placed(place: u32) -> Placed {
     Placed {
         bucket: 0,
@@ -220,6 +273,17 @@ fn packet_host_lines(alloc: Global) -> Result<Items<HostLine>, AllocError> {
         ops,
     })?;
     Ok(lines)
+}
+
+fn heard_advert() -> HostLine {
+    HostLine::Frame {
+        n: 1,
+        at: Moment(1500),
+        class: Class::Nd,
+        queued: None,
+        tx: None,
+        op: Some(placed(2)),
+    }
 }
 
 fn form_host_lines(alloc: Global) -> Result<Items<HostLine>, AllocError> {
@@ -302,7 +366,12 @@ fn one<T: Drop>(alloc: Global, item: T) -> Result<Items<T>, AllocError> {
 fn packet_run(alloc: Global, host: Host) -> Result<Run, AllocError>
     ensures { IfOk result (λ run. InRange run.plan.params) }
 {
-    let plan = plan(alloc, host, packets(alloc, 1)?, Items::new(alloc))?;
+    let plan = plan(
+        alloc,
+        host,
+        packets(alloc, ONE, [0x45, 0], &[5])?,
+        Items::new(alloc),
+    )?;
     let log = one(alloc, slow(Why::Inline, 1, Reply::Sent))?;
     Ok(Run {
         mode: Mode::Inline,
@@ -317,7 +386,12 @@ fn packet_run(alloc: Global, host: Host) -> Result<Run, AllocError>
 fn form_run(alloc: Global, host: Host) -> Result<Run, AllocError>
     ensures { IfOk result (λ run. InRange run.plan.params) }
 {
-    let plan = plan(alloc, host, packets(alloc, 3)?, form_control(alloc)?)?;
+    let plan = plan(
+        alloc,
+        host,
+        packets(alloc, ONE, [0x45, 0], &[5, 5, 5])?,
+        form_control(alloc)?,
+    )?;
     let mut marks = Items::new(alloc);
     marks.push(mark(alloc, Some(Moment(50)), 1)?)?;
     marks.push(mark(alloc, None, 10)?)?;
@@ -328,6 +402,33 @@ fn form_run(alloc: Global, host: Host) -> Result<Run, AllocError>
         host_lines: form_host_lines(alloc)?,
         logs: one(alloc, form_log(alloc)?)?,
         marks,
+    })
+}
+
+fn six_log(alloc: Global) -> Result<Log, AllocError> {
+    let mut log = Items::new(alloc);
+    log.push(slow(Why::Inline, 0, Reply::Waits { dropped: None }))?;
+    log.push(slow(Why::Inline, 3, Reply::Sent))?;
+    Ok(log)
+}
+
+fn six_run(alloc: Global, host: Host) -> Result<Run, AllocError>
+    ensures { IfOk result (λ run. InRange run.plan.params) }
+{
+    let host = Host {
+        ip4: None,
+        ip6: Some(0xfe80_0000_0000_0000_0000_0000_0000_0002),
+        ..host
+    };
+    let packets = packets(alloc, SIX, [0x60, 0], &[5, 2000])?;
+    let plan = plan(alloc, host, packets, Items::new(alloc))?;
+    Ok(Run {
+        mode: Mode::Inline,
+        plan,
+        journals: one(alloc, six_lines(alloc)?)?,
+        host_lines: one(alloc, heard_advert())?,
+        logs: one(alloc, six_log(alloc)?)?,
+        marks: Items::new(alloc),
     })
 }
 
@@ -377,6 +478,15 @@ fn lines_of_every_form(rt: HostRuntime) -> Result<(), Fail> {
     let alloc = rt.alloc();
     let report = told(alloc, &form_run(alloc, host)?)?.expect(&rt, "a run");
     assert_eq!(rt; report.as_slice(), FORMS_REPORT.as_bytes());
+    Ok(())
+}
+
+#[test]
+fn ip6_neighbour_is_solicited(rt: HostRuntime) -> Result<(), Fail> {
+    let host = host().expect(&rt, "a name");
+    let alloc = rt.alloc();
+    let report = told(alloc, &six_run(alloc, host)?)?.expect(&rt, "a run");
+    assert_eq!(rt; report.as_slice(), SIX_REPORT.as_bytes());
     Ok(())
 }
 

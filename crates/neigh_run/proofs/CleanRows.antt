@@ -2,9 +2,7 @@
 use Rattle.std.proofs.Common.{ℕ, ◌+◌, Bool, true, false, if◌then◌else◌, List, [], ◌∷◌, ◌++◌, length, map, refl, sym, ◌∙◌, ap, ◌≤◌, arith}
 use Rattle.std.specs.Prelude.{codes, decimal}
 use Rattle.std.specs.List.{AllByRecursion}
-use Rattle.nb_base.specs.declared.mac.Mac.{Mac}
 use Rattle.nb_base.specs.declared.key.Key.{Key}
-use Rattle.nb_base.specs.declared.key.Key.TheVariants.{V4, V6}
 use Rattle.nb_base.specs.declared.host.Host.{Host}
 use Rattle.nb_base.specs.declared.params.Params.{Params}
 use Rattle.nb_base.specs.declared.op.Op.{Op}
@@ -25,9 +23,9 @@ use Rattle.text_codes.proofs.Each.{Each-append}
 use Rattle.text_codes.proofs.Again.{rows_again}
 use Rattle.neigh_run.specs.declared.run.Run.{Run}
 use Rattle.neigh_run.specs.Spelling.{op_words, reply_part}
-use Rattle.neigh_run.specs.Frames.{sent_frame, everyone, request_frame}
+use Rattle.neigh_run.specs.Frames.{sent_frame, group_solicitation, unicast_solicitation}
 use Rattle.neigh_run.specs.Entries.{entry_words, entry_if_present, entries_after, proxy_words}
-use Rattle.neigh_run.specs.Report.{head_words, solicit_lines, act_lines, key_lines, lines_below, line_words, journal_lines, bucket_lines, host_line_words, log_lines, sender_lines, mark_words, fates_words, table, proxies, counted, report, report_text}
+use Rattle.neigh_run.specs.Report.{head_words, act_line, key_lines, lines_below, line_words, journal_lines, bucket_lines, host_line_words, log_lines, sender_lines, mark_words, fates_words, table, proxies, counted, report, report_text}
 use Rattle.neigh_run.specs.Laws.{ReportsGiveTheirLinesBack, TextsTellReports}
 use Rattle.neigh_run.proofs.CleanWords.{all-flat_map, all-map, clean-decimal, clean-hex, clean-key, clean-name}
 use Rattle.neigh_run.proofs.CleanSpelling.{AreClean, clean-mode, clean-host, clean-op, clean-id, clean-reply_part, clean-cause, clean-entry, clean-host_line, clean-outcome, clean-start}
@@ -38,19 +36,15 @@ AreRows rows = AllByRecursion IsCleanRow rows
 
 -- ---- journals
 
-solicit-rows : (plan : Plan) (key : Key) (mac : Mac) → AreRows (solicit_lines plan key mac)
-solicit-rows plan (V4 address) mac = ((omega arith, (refl, (refl, (refl, (clean-hex (request_frame plan.host mac address), tt))))), tt)
-solicit-rows plan (V6 address) mac = tt
-
-act-rows : (plan : Plan) (key : Key) (a : Act) → AreRows (act_lines plan key a)
-act-rows plan key (act.Transmit id mac) = ((omega arith, (refl, (refl, (refl, (clean-decimal id.0, (clean-hex (sent_frame plan id mac), tt)))))), tt)
-act-rows plan key (act.Wait id) = ((omega arith, (refl, (refl, (refl, (clean-decimal id.0, tt))))), tt)
-act-rows plan key (act.Drop id why) = ((omega arith, (refl, (refl, (refl, (clean-decimal id.0, (clean-cause why, tt)))))), tt)
-act-rows plan key act.SolicitGroup = solicit-rows plan key everyone
-act-rows plan key (act.SolicitUnicast mac) = solicit-rows plan key mac
+act-row : (plan : Plan) (key : Key) (a : Act) → IsCleanRow (act_line plan key a)
+act-row plan key (act.Transmit id mac) = (omega arith, (refl, (refl, (refl, (clean-decimal id.0, (clean-hex (sent_frame plan id mac), tt))))))
+act-row plan key (act.Wait id) = (omega arith, (refl, (refl, (refl, (clean-decimal id.0, tt)))))
+act-row plan key (act.Drop id why) = (omega arith, (refl, (refl, (refl, (clean-decimal id.0, (clean-cause why, tt))))))
+act-row plan key act.SolicitGroup = (omega arith, (refl, (refl, (refl, (clean-hex (group_solicitation plan.host key), tt)))))
+act-row plan key (act.SolicitUnicast mac) = (omega arith, (refl, (refl, (refl, (clean-hex (unicast_solicitation plan.host key mac), tt)))))
 
 key-rows : (plan : Plan) (past : List Line) (line : Line) (key : Key) → AreRows (key_lines plan past line key)
-key-rows plan past line key = all-flat_map IsCleanRow (act_lines plan key) (act-rows plan key) (acts_of plan.params past line key)
+key-rows plan past line key = all-map IsCleanRow (act_line plan key) (act-row plan key) (acts_of plan.params past line key)
 
 present-words : (h : Host) (key : Key) (e : Entry) → IsClean h.dev → AreRows (entry_if_present h key e)
 present-words h key e dev = by_test e.present where

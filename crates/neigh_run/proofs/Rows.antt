@@ -1,6 +1,7 @@
 -- The definitions at samples: the merged order, the ids, the packets that ids name, frames, and proxies.
-use Rattle.std.proofs.Common.{◌≡◌, ℕ, ◌+◌, ◌-◌, ◌*◌, ◌/◌, ◌%◌, ◌<◌, ◌≤◌, true, false, List, [], ◌∷◌, map, Some, None, refl, arith}
+use Rattle.std.proofs.Common.{◌≡◌, ℕ, ◌+◌, ◌-◌, ◌*◌, ◌/◌, ◌%◌, ◌<◌, ◌≤◌, true, false, List, [], ◌∷◌, ◌++◌, map, Some, None, refl, arith}
 use Rattle.std.specs.Prelude.{codes, slice_get, option_and_then}
+use Rattle.nb_base.specs.declared.mac.Mac.{Mac}
 use Rattle.nb_base.specs.declared.key.Key.{Key}
 use Rattle.nb_base.specs.declared.key.Key.TheVariants.{V4, V6}
 use Rattle.nb_base.specs.declared.op.Op.TheVariants as op
@@ -12,9 +13,11 @@ use Rattle.nud_machine.specs.declared.act.Act.TheVariants as act
 use Rattle.nb_journal.specs.Keys.{is_key}
 use Rattle.neigh_run.specs.Merged.{Entered, id_for, merged}
 use Rattle.neigh_run.specs.Plan.{keys_named, is_replayed}
-use Rattle.neigh_run.specs.Frames.{packet_of, sent_frame}
+use Rattle.nd_codec.specs.Checksum.{words_of, pseudo_header, checksum_of}
+use Rattle.nd_codec.specs.Spelling.{header_bytes, message_bytes, solicit_bytes}
+use Rattle.neigh_run.specs.Frames.{packet_of, sent_frame, solicited_node}
 use Rattle.neigh_run.specs.Entries.{proxies_with}
-use Rattle.neigh_run.specs.Report.{act_lines}
+use Rattle.neigh_run.specs.Report.{act_line}
 
 -- the id of a packet names it: of sender p the item of number n
 packet-named : (plan : Plan) (p n : ℕ) → p < 32 → 1 ≤ n → packet_of plan (id_for p n) ≡ option_and_then (λ items. slice_get items (n - 1)) (slice_get plan.senders (p - 1))
@@ -28,6 +31,12 @@ one = V4 0x0a000001
 
 abbrev two : Key
 two = V4 0x0a000002
+
+abbrev six : Key
+six = V6 0xfe800000000000000000000000000001
+
+abbrev somewhere : Mac
+somewhere = record { 0 = 0 ∷ 0x11 ∷ 0x22 ∷ 0x33 ∷ 0x44 ∷ 0x55 ∷ [] }
 
 abbrev send : ℕ → Key → SendItem
 send at key = record { at = at; key = key; payload = 7 ∷ [] }
@@ -81,16 +90,29 @@ abbrev asking : Plan
 asking = record sample { host = record { dev = codes "eth0"; mac = record { 0 = 2 ∷ 0 ∷ 0 ∷ 0 ∷ 0 ∷ 2 ∷ [] }; ip4 = Some 0x0a000002; ip6 = None } }
 
 -- it asks everyone for 10.0.0.1
-group-row : act_lines asking one act.SolicitGroup ≡ ([] ∷ [] ∷ codes "solicit" ∷ codes "ffffffffffff020000000002080600010800060400010200000000020a0000020000000000000a000001" ∷ []) ∷ []
+group-row : act_line asking one act.SolicitGroup ≡ [] ∷ [] ∷ codes "solicit" ∷ codes "ffffffffffff020000000002080600010800060400010200000000020a0000020000000000000a000001" ∷ []
 group-row = refl
 
 -- and the host at 00:11:22:33:44:55 alone
-unicast-row : act_lines asking one (act.SolicitUnicast (record { 0 = 0 ∷ 0x11 ∷ 0x22 ∷ 0x33 ∷ 0x44 ∷ 0x55 ∷ [] })) ≡ ([] ∷ [] ∷ codes "solicit" ∷ codes "001122334455020000000002080600010800060400010200000000020a0000020000000000000a000001" ∷ []) ∷ []
+unicast-row : act_line asking one (act.SolicitUnicast somewhere) ≡ [] ∷ [] ∷ codes "solicit" ∷ codes "001122334455020000000002080600010800060400010200000000020a0000020000000000000a000001" ∷ []
 unicast-row = refl
 
--- no line for an IPv6 address
-unspelled-row : act_lines asking (V6 1) act.SolicitGroup ≡ []
-unspelled-row = refl
+-- with the address fe80::2 it asks the solicited-node group of fe80::1, ff02::1:ff00:1 at 33:33:ff:00:00:01
+abbrev asking_six : Plan
+asking_six = record asking { host = record asking.host { ip6 = Some 0xfe800000000000000000000000000002 } }
+
+group_six-row : act_line asking_six six act.SolicitGroup ≡ [] ∷ [] ∷ codes "solicit" ∷ (codes "3333ff00000102000000000286dd" ++ codes "6000000000203afffe800000000000000000000000000002ff0200000000000000000001ff000001" ++ codes "87007a9700000000fe8000000000000000000000000000010101020000000002") ∷ []
+unfolding solicit_bytes header_bytes message_bytes checksum_of pseudo_header words_of
+group_six-row = refl
+
+-- and fe80::1 itself, at 00:11:22:33:44:55
+unicast_six-row : act_line asking_six six (act.SolicitUnicast somewhere) ≡ [] ∷ [] ∷ codes "solicit" ∷ (codes "00112233445502000000000286dd" ++ codes "6000000000203afffe800000000000000000000000000002fe800000000000000000000000000001" ++ codes "87007a1b00000000fe8000000000000000000000000000010101020000000002") ∷ []
+unfolding solicit_bytes header_bytes message_bytes checksum_of pseudo_header words_of
+unicast_six-row = refl
+
+-- only the low 24 bits of 2001:db8::1:2345:6789 are its group's
+node-row : solicited_node 0x20010db8000000000000000123456789 ≡ 0xff0200000000000000000001ff456789
+node-row = refl
 
 -- a proxy entry that is added again keeps its place, and one that is added behind its deletion goes last
 proxies-again : proxies_with (one ∷ two ∷ []) (control.Proxy 9 one true) ≡ one ∷ two ∷ []

@@ -3,22 +3,17 @@ use Rattle.std.proofs.Common.{◌≡◌, ℕ, zero, suc, ◌<◌, ◌/◌, ◌%�
 use Rattle.std.specs.Prelude.{codes, decimal}
 use Rattle.std.specs.List.{AllByRecursion}
 use Rattle.std.specs.Fmt.{digit_glyph, digits_onto, digits}
-use Rattle.nb_base.specs.declared.mac.Mac.{Mac}
 use Rattle.nb_base.specs.declared.key.Key.{Key}
-use Rattle.nb_base.specs.declared.key.Key.TheVariants.{V4, V6}
 use Rattle.nb_base.specs.declared.op.Op.{Op}
 use Rattle.nb_base.specs.declared.op.Op.TheVariants as op
 use Rattle.nb_base.specs.declared.line.Line.{Line}
 use Rattle.nb_base.specs.declared.plan.Plan.{Plan}
-use Rattle.nud_machine.specs.declared.act.Act.{Act}
-use Rattle.nud_machine.specs.declared.act.Act.TheVariants as act
 use Rattle.nb_journal.specs.Fold.{acts_of, known_keys, reply_of}
 use Rattle.text_codes.specs.Lines.{Words, is_set_in}
 use Rattle.text_codes.proofs.Each.{row-not_set_in}
 use Rattle.neigh_run.specs.Spelling.{op_words, id_word, reply_part}
 use Rattle.neigh_run.specs.Entries.{entries_after}
-use Rattle.neigh_run.specs.Frames.{everyone}
-use Rattle.neigh_run.specs.Report.{set_in, solicit_lines, act_lines, key_lines, lines_below}
+use Rattle.neigh_run.specs.Report.{set_in, act_line, key_lines, lines_below}
 use Rattle.neigh_run.specs.Laws.{OnlyBelowIsSetIn}
 use Rattle.neigh_run.proofs.CleanWords.{all-flat_map, all-map}
 
@@ -44,19 +39,8 @@ some-decimal n = first-some 63 n
 abbrev AreSetIn : List Words → Type 0
 AreSetIn rows = AllByRecursion (λ row. is_set_in row ≡ true) rows
 
-solicit-set_in : (plan : Plan) (key : Key) (mac : Mac) → AreSetIn (solicit_lines plan key mac)
-solicit-set_in plan (V4 address) mac = (refl, tt)
-solicit-set_in plan (V6 address) mac = tt
-
-acts-set_in : (plan : Plan) (key : Key) (a : Act) → AreSetIn (act_lines plan key a)
-acts-set_in plan key (act.Transmit id mac) = (refl, tt)
-acts-set_in plan key (act.Wait id) = (refl, tt)
-acts-set_in plan key (act.Drop id why) = (refl, tt)
-acts-set_in plan key act.SolicitGroup = solicit-set_in plan key everyone
-acts-set_in plan key (act.SolicitUnicast mac) = solicit-set_in plan key mac
-
 key-set_in : (plan : Plan) (past : List Line) (line : Line) (key : Key) → AreSetIn (key_lines plan past line key)
-key-set_in plan past line key = all-flat_map (λ row. is_set_in row ≡ true) (act_lines plan key) (acts-set_in plan key) (acts_of plan.params past line key)
+key-set_in plan past line key = all-map (λ row. is_set_in row ≡ true) (act_line plan key) (λ a. refl) (acts_of plan.params past line key)
 
 below-set_in : (plan : Plan) (past : List Line) (line : Line) (o : Op) → AreSetIn (lines_below plan past line o)
 below-set_in plan past line op.Show = all-map (λ row. is_set_in row ≡ true) (λ words. set_in (codes "entry" ∷ words)) (λ words. refl) (entries_after plan.host plan.params past)

@@ -1,5 +1,6 @@
 -- Frames of packets and of solicitations.
-use Rattle.std.specs.Prelude.{ℕ, ◌-◌, ◌/◌, ◌%◌, List, [], ◌++◌, replicate, Option, unwrap_or, slice_get, option_and_then}
+use Rattle.std.specs.Prelude.{ℕ, ◌+◌, ◌-◌, ◌/◌, ◌%◌, ◌^◌, List, [], ◌∷◌, ◌++◌, replicate, Option, unwrap_or, slice_get, option_and_then}
+use Rattle.std.specs.Int.{w32, to_be_bytes}
 use Rattle.std.specs.Option.{option_map_or}
 use Rattle.nb_base.specs.declared.mac.Mac.{Mac}
 use Rattle.nb_base.specs.declared.key.Key.{Key}
@@ -11,6 +12,7 @@ use Rattle.nb_base.specs.declared.plan.SendItem.{SendItem}
 use Rattle.link_codec.specs.declared.arp.Arp.{Arp}
 use Rattle.link_codec.specs.Ethernet.{eth_bytes}
 use Rattle.link_codec.specs.Arp.{arp_bytes}
+use Rattle.nd_codec.specs.Spelling.{solicit_bytes}
 
 -- ---- packets
 
@@ -48,3 +50,30 @@ request_for host address = record { op = 1; sha = host.mac; spa = unwrap_or host
 -- the frame in which the request goes from the host to a link address
 abbrev pub request_frame : Host → Mac → ℕ → List ℕ
 request_frame host mac address = eth_bytes mac host.mac 0x0806 ++ arp_bytes (request_for host address)
+
+-- ---- solicitations of IPv6 addresses (RFC 4861 sections 4.3 and 7.2.2; Linux, ndisc_solicit)
+
+-- the solicited-node address of an address: ff02::1:ff00:0 with its low 24 bits (RFC 4291 section 2.7.1)
+abbrev pub solicited_node : ℕ → ℕ
+solicited_node address = 0xff0200000000000000000001ff000000 + address % 2 ^ 24
+
+-- the Ethernet address of an IPv6 group: 33:33 and the group's low 32 bits (RFC 2464 section 7)
+abbrev pub group_mac : ℕ → Mac
+group_mac group = record { 0 = 0x33 ∷ 0x33 ∷ to_be_bytes w32 (group % 2 ^ 32) }
+
+-- the frame in which a neighbour solicitation for the address goes from the host to an IPv6 destination at a link address
+-- it tells the host's link address; a host without an IPv6 address gives `::` as its own, but it has no IPv6 neighbours
+abbrev pub neighbour_frame : Host → Mac → ℕ → ℕ → List ℕ
+neighbour_frame host mac destination address = eth_bytes mac host.mac 0x86dd ++ solicit_bytes (unwrap_or host.ip6 0) destination address host.mac
+
+-- ---- solicitations of keys
+
+-- an unresolved address is asked for among all that may have it: all hosts of the link by ARP, its solicited-node group by neighbour discovery
+abbrev pub group_solicitation : Host → Key → List ℕ
+group_solicitation host (V4 address) = request_frame host everyone address
+group_solicitation host (V6 address) = neighbour_frame host (group_mac (solicited_node address)) (solicited_node address) address
+
+-- a probe goes to the link address of the key's entry, by neighbour discovery to the key itself
+abbrev pub unicast_solicitation : Host → Key → Mac → List ℕ
+unicast_solicitation host (V4 address) mac = request_frame host mac address
+unicast_solicitation host (V6 address) mac = neighbour_frame host mac address address

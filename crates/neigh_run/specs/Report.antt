@@ -1,9 +1,7 @@
 -- The text of a run: lines of words, in ten parts.
 use Rattle.std.specs.Prelude.{ℕ, ◌+◌, ◌∷◌, Bool, true, false, List, [], ◌++◌, map, filter, fold, length, Option, Some, None, codes, decimal}
 use Rattle.std.specs.List.{flat_map}
-use Rattle.nb_base.specs.declared.mac.Mac.{Mac}
 use Rattle.nb_base.specs.declared.key.Key.{Key}
-use Rattle.nb_base.specs.declared.key.Key.TheVariants.{V4, V6}
 use Rattle.nb_base.specs.declared.time.OpId.{OpId}
 use Rattle.nb_base.specs.declared.op.Op.{Op}
 use Rattle.nb_base.specs.declared.op.Op.TheVariants as op
@@ -25,7 +23,7 @@ use Rattle.neigh_run.specs.declared.run.Run.{Run}
 use Rattle.text_codes.specs.Lines.{Words, text_of}
 use Rattle.text_codes.specs.HexText.{hex_text}
 use Rattle.neigh_run.specs.Spelling.{dash, mode_word, host_words, op_words, id_text, id_word, reply_words, reply_part, cause_word, class_word, placed_words}
-use Rattle.neigh_run.specs.Frames.{sent_frame, everyone, request_frame}
+use Rattle.neigh_run.specs.Frames.{sent_frame, group_solicitation, unicast_solicitation}
 use Rattle.neigh_run.specs.Entries.{entries_after, proxies_with, proxy_words}
 
 -- `neigh 1 mode MODE buckets N senders N window MS`
@@ -38,22 +36,21 @@ head_words run =
 abbrev pub set_in : Words → Words
 set_in words = [] ∷ [] ∷ words
 
--- the line of a solicitation of a key that goes to a link address (for an IPv6 key it isn't spelled yet)
-abbrev pub solicit_lines : Plan → Key → Mac → List Words
-solicit_lines plan (V4 address) mac = set_in (codes "solicit" ∷ hex_text (request_frame plan.host mac address) ∷ []) ∷ []
-solicit_lines plan (V6 address) mac = []
+-- the words of an act, for the key whose entry acts
+abbrev pub act_words : Plan → Key → Act → Words
+act_words plan key (act.Transmit id mac) = codes "tx" ∷ id_text id ∷ hex_text (sent_frame plan id mac) ∷ []
+act_words plan key (act.Wait id) = codes "wait" ∷ id_text id ∷ []
+act_words plan key (act.Drop id why) = codes "drop" ∷ id_text id ∷ cause_word why ∷ []
+act_words plan key act.SolicitGroup = codes "solicit" ∷ hex_text (group_solicitation plan.host key) ∷ []
+act_words plan key (act.SolicitUnicast mac) = codes "solicit" ∷ hex_text (unicast_solicitation plan.host key mac) ∷ []
 
--- an act's line, for the key whose entry acts
-abbrev pub act_lines : Plan → Key → Act → List Words
-act_lines plan key (act.Transmit id mac) = set_in (codes "tx" ∷ id_text id ∷ hex_text (sent_frame plan id mac) ∷ []) ∷ []
-act_lines plan key (act.Wait id) = set_in (codes "wait" ∷ id_text id ∷ []) ∷ []
-act_lines plan key (act.Drop id why) = set_in (codes "drop" ∷ id_text id ∷ cause_word why ∷ []) ∷ []
-act_lines plan key act.SolicitGroup = solicit_lines plan key everyone
-act_lines plan key (act.SolicitUnicast mac) = solicit_lines plan key mac
+-- each act has a line, which is set in
+abbrev pub act_line : Plan → Key → Act → Words
+act_line plan key a = set_in (act_words plan key a)
 
 -- the acts of a line behind the past, for a key
 abbrev pub key_lines : Plan → List Line → Line → Key → List Words
-key_lines plan past line key = flat_map (act_lines plan key) (acts_of plan.params past line key)
+key_lines plan past line key = map (act_line plan key) (acts_of plan.params past line key)
 
 -- a look lists the entries; every other line has its acts, over the keys that are known behind it, by rank
 abbrev pub lines_below : Plan → List Line → Line → Op → List Words
