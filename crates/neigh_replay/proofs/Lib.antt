@@ -18,3 +18,4 @@ pub mod AskedRows
 pub mod ScriptLimits
 pub mod ScriptBounds
 pub mod Unentered
+pub mod ScriptRuns

@@ -24,6 +24,8 @@ pub use words_of_command::settings;
 #[cfg(test)]
 mod command_tests;
 #[cfg(test)]
+mod fates_tests;
+#[cfg(test)]
 mod scripts;
 #[cfg(test)]
 mod tests;

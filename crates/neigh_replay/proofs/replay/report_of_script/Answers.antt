@@ -1,19 +1,14 @@
 -- What the replay and the report's text ask of a script's plan.
-use Rattle.std.proofs.Common.{◌≡◌, ◌∙◌, ◌≤◌, ℕ, length, ap, sym, subst, true, Err}
+use Rattle.std.proofs.Common.{◌≡◌, ◌∙◌, ◌≤◌, ap, sym, subst, true, Err}
 use Rattle.std.proofs.lemmas.Result.{err_from_is_err_and}
 use Rattle.nb_base.specs.Params.{InRange}
 use Rattle.nb_base.specs.declared.plan.Plan.{Plan}
 use Rattle.nud_machine.specs.Asked.{greatest}
-use Rattle.neigh_script.specs.declared.script.Script.{Script}
-use Rattle.neigh_script.specs.Limits as limits
-use Rattle.neigh_run.specs.declared.run.Run.{Run}
-use Rattle.neigh_run.specs.Inline.{IsInlineRun, journal_at}
-use Rattle.neigh_run.specs.Plan.{plan_of}
 use Rattle.neigh_replay.specs.declared.fail.ReplayFail.TheVariants.{TooLarge}
 use Rattle.neigh_replay.specs.Inline.{last_item_at, has_given_ops, most_lines, plan_bound}
 use Rattle.neigh_replay.proofs.ScriptLimits.{script_within, one_bucket}
 use Rattle.neigh_replay.proofs.ScriptBounds.{script_params, script_upto, script_given, never_too_large}
-use Rattle.neigh_replay.proofs.Steps.{HasText, run_has_text}
+use Rattle.neigh_replay.proofs.ScriptRuns.{has_text}
 use Rattle.neigh_replay.proofs.Tasks.{same_fail}
 use Rattle.neigh_replay.proofs.replay.report_of_script.Goals as goal
 
@@ -40,11 +35,6 @@ returns-in_err-run-clause-never_too_large c e =
     let p = err_from_is_err_and c.from_residual-in_err-run.result c.from_residual-in_err-run.ensures.1 in
     let large = sym p.2 ∙ same_fail c.from_residual-in_err-run.result p.0 TooLarge p.1 e in
     never_too_large c.args.script.now c.args.window c.requires.within c.requires.few (subst (λ (plan : Plan). most_lines ≤ plan_bound plan) c.in_ok-plan.ensures.value (c.in_err-run.ensures.too_large (ap Err large)))
-
--- what the report's text asks of the run
-has_text : (script : Script) (window : ℕ) (plan : Plan) (run : Run) → plan ≡ plan_of script window 1 → limits.IsWithinLimits script → IsInlineRun plan run → length (journal_at run.journals 0) ≤ most_lines → HasText run
-has_text script window plan run is within inline short =
-    run_has_text (plan_of script window 1) run (script_params script window 1 within) (one_bucket script window) (script_upto script window 1 within) (script_given script window 1 within) (subst (λ (p : Plan). IsInlineRun p run) is inline) short
 
 pub text-requires-clause-params : goal.text-requires-clause-params
 text-requires-clause-params c = (has_text c.args.script.now c.args.window c.in_ok-plan.plan c.in_ok-run.run' c.in_ok-plan.ensures.value c.requires.within c.in_ok-run.ensures.run c.in_ok-run.ensures.short).params
