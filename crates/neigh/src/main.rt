@@ -1,7 +1,7 @@
 //! The program: real files, standard output and standard error for the command.
 #![tactic(auto)]
 
-use nb_io::{FileInputs, OpenGate, OutSink};
+use nb_io::{FileInputs, OpenGate, OutSink, Sink, WriteFault, write_all};
 use neigh_replay::run;
 use std::process::ExitCode;
 use std::rt::Env;
@@ -16,14 +16,26 @@ fn command_words<R: Env + AllocGlobal>(rt: &R) -> io::Result<Vec<String>> {
     Ok(words)
 }
 
+// Without memory for the words it isn't known whether they are of the command.
+fn without_words<E: Sink>(err: &mut E) -> ExitCode {
+    match write_all(err, b"neigh: no memory\n") {
+        Ok(()) => {}
+        Err(WriteFault) => {}
+    }
+    ExitCode::from(1)
+}
+
 fn main(rt: HostRuntime) -> ExitCode {
+    let mut err = OutSink::new(rt.stderr());
     let words = match command_words(&rt) {
         Ok(words) => words,
-        Err(_) => Vec::new(rt.alloc()),
+        Err(error) => match error.kind() {
+            io::ErrorKind::OutOfMemory => return without_words(&mut err),
+            _ => Vec::new(rt.alloc()),
+        },
     };
     let mut inputs = FileInputs::new(&rt);
     let mut out = OutSink::new(rt.stdout());
-    let mut err = OutSink::new(rt.stderr());
     ExitCode::from(run(
         &rt,
         rt.alloc(),

@@ -141,7 +141,7 @@ pub record IsReplay (name : List ℕ) (window : ℕ) (o : Outside) (status : ℕ
   -- no other status writes a report, and each failure says its line
   pub untouched : status ≢ 0 → status ≢ 6 → IsUntouched o.out
   pub said : status ≢ 0 → status ≢ 5 → SinkSays o.err (line_for status name)
-  -- where the script's plan is replayed and nothing outside fails, the report is written, unless no memory is left
+  -- where the script is within its limit, its plan is replayed and nothing outside fails, the report is written, unless no memory is left
   pub complete : IfSome (o.held name) (λ text. length text ≤ script_limit → IsReplayedText window text → (NameFailed o name → ⊥) → (SinkFailed o.out → ⊥) → IsOneOf (0 ∷ 1 ∷ []) status)
 
 -- a call of the command with these words that ended with the status

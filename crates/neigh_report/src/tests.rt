@@ -43,7 +43,7 @@ proxies 0
 end
 ";
 
-/// A line of every form that no script of one thread brings, and more.
+/// Lines of the forms that no script of one thread brings, and others.
 const FORMS_REPORT: &str = "\
 neigh 1 mode threads buckets 1 senders 1 window 50
 host dev eth0 lladdr 02:00:00:00:00:02 inet 10.0.0.2
@@ -70,10 +70,11 @@ host lines 4
 2 5 frame ndbad3 proxyfull
 3 6 proxy exists
 - 7 answer 0102
-sender 1 items 3
+sender 1 items 4
 1 5 fast 2 00112233445502000000000208004500
 2 5 suspect 3 0 noprobes
 3 5 again 1/2 3/4 5/6 7/8 1 waits dropping 33
+4 5 first 9 sent
 marks 2
 mark 50 1
 mark end 10
@@ -95,7 +96,7 @@ bucket 0 lines 5
   wait 33
 1 1005 - timer fe80::1 -> -
   solicit 3333ff00000102000000000286dd6000000000203afffe800000000000000000000000000002ff0200000000000000000001ff00000187007a9700000000fe8000000000000000000000000000010101020000000002
-2 1500 32 na fe80::1 00:11:22:33:44:55 --o -> done
+2 1500 32 na fe80::1 00:11:22:33:44:55 r-o -> done
   tx 33 00112233445502000000000286dd6000
 3 2000 65 send fe80::1 -> sent
   tx 65 00112233445502000000000286dd6000
@@ -109,7 +110,7 @@ sender 1 items 2
 marks 0
 fates sent 2 fast 0 dropped 0 waiting 0
 table 1
-fe80::1 dev eth0 lladdr 00:11:22:33:44:55 PROBE
+fe80::1 dev eth0 lladdr 00:11:22:33:44:55 router PROBE
 proxies 0
 end
 ";
@@ -242,7 +243,7 @@ fn six_lines(alloc: Global) -> Result<Items<Line>, AllocError> {
     let na = Op::Na {
         key: SIX,
         mac: Some(A),
-        router: false,
+        router: true,
         solicited: false,
         overrides: true,
     };
@@ -335,6 +336,7 @@ fn form_log(alloc: Global) -> Result<Log, AllocError> {
         dropped: Some(OpId(33)),
     };
     log.push(slow(why, 1, waits))?;
+    log.push(slow(Why::First, 9, Reply::Sent))?;
     Ok(log)
 }
 
@@ -389,7 +391,7 @@ fn form_run(alloc: Global, host: Host) -> Result<Run, AllocError>
     let plan = plan(
         alloc,
         host,
-        packets(alloc, ONE, [0x45, 0], &[5, 5, 5])?,
+        packets(alloc, ONE, [0x45, 0], &[5, 5, 5, 5])?,
         form_control(alloc)?,
     )?;
     let mut marks = Items::new(alloc);
@@ -432,7 +434,7 @@ fn six_run(alloc: Global, host: Host) -> Result<Run, AllocError>
     })
 }
 
-/// A run without buckets and senders, of which nothing came.
+/// A run without a journal and without a log, of which nothing came.
 fn empty_run(alloc: Global, host: Host) -> Result<Run, AllocError>
     ensures params { IfOk result (λ run. InRange run.plan.params) }
     ensures journals { IfOk result (λ run. run.journals ≡ []) }
@@ -473,7 +475,7 @@ fn permanent_entry_and_packet(rt: HostRuntime) -> Result<(), Fail> {
 }
 
 #[test]
-fn lines_of_every_form(rt: HostRuntime) -> Result<(), Fail> {
+fn lines_of_the_other_forms(rt: HostRuntime) -> Result<(), Fail> {
     let host = host().expect(&rt, "a name");
     let alloc = rt.alloc();
     let report = told(alloc, &form_run(alloc, host)?)?.expect(&rt, "a run");

@@ -25,7 +25,7 @@ type_for (V6 address) = 0x86dd
 abbrev pub frame_to : Host → Mac → SendItem → List ℕ
 frame_to host mac item = eth_bytes mac host.mac (type_for item.key) ++ item.payload
 
--- the packet that an id names: of sender `id % 32`, the item of number `id / 32`
+-- the packet that an id names: of sender `id % 32`, the item of number `id / 32`, both counted from 1 (an id of participant 0, which is 0 there, is no packet's, and what is said of it means nothing)
 abbrev pub packet_of : Plan → OpId → Option SendItem
 packet_of plan id = option_and_then (λ items. slice_get items (id.0 / 32 - 1)) (slice_get plan.senders (id.0 % 32 - 1))
 
