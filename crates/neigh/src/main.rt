@@ -1,6 +1,9 @@
 //! The program: real files, standard output and standard error for the command.
 #![tactic(auto)]
 
+ghost use Rattle.std.specs.Prelude.{◌≡◌, []};
+ghost use Rattle.neigh_replay.specs.Status.{Says, line_for};
+
 use nb_io::{FileInputs, OpenGate, OutSink, Sink, WriteFault, write_all};
 use neigh_replay::run;
 use std::process::ExitCode;
@@ -17,12 +20,16 @@ fn command_words<R: Env + AllocGlobal>(rt: &R) -> io::Result<Vec<String>> {
 }
 
 // Without memory for the words it isn't known whether they are of the command.
-fn without_words<E: Sink>(err: &mut E) -> ExitCode {
+#[tactic(auto, unfolding(neigh_replay::specs::Status::line_of))]
+fn without_words<E: Sink>(err: &mut E) -> u8
+    ensures answer { result ≡ 1 }
+    ensures said { Says (E.taken err.old) (E.taken err.new) (E.faults err.old) (E.faults err.new) (line_for 1 []) }
+{
     match write_all(err, b"neigh: no memory\n") {
         Ok(()) => {}
         Err(WriteFault) => {}
     }
-    ExitCode::from(1)
+    1
 }
 
 fn main(rt: HostRuntime) -> ExitCode {
@@ -30,7 +37,7 @@ fn main(rt: HostRuntime) -> ExitCode {
     let words = match command_words(&rt) {
         Ok(words) => words,
         Err(error) => match error.kind() {
-            io::ErrorKind::OutOfMemory => return without_words(&mut err),
+            io::ErrorKind::OutOfMemory => return ExitCode::from(without_words(&mut err)),
             _ => Vec::new(rt.alloc()),
         },
     };
