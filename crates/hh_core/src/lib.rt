@@ -6,8 +6,6 @@ mod lock;
 mod reader;
 mod readers;
 mod step;
-#[cfg(test)]
-mod tests;
 
 pub use laws::{
     floors_rise, good_try, published_stays, safe_at_first, safe_run, safe_step, try_of_a_run,

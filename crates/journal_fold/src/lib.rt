@@ -6,8 +6,6 @@ mod counts;
 mod fold;
 mod known;
 mod steps;
-#[cfg(test)]
-mod tests;
 mod verdict;
 
 pub use fold::Fold;

@@ -4,8 +4,6 @@
 mod arp;
 mod ethernet;
 mod parts;
-#[cfg(test)]
-mod tests;
 
 pub use arp::{Arp, read_arp, write_arp};
 pub use ethernet::{EthView, read_eth, write_eth};

@@ -15,8 +15,6 @@ mod params;
 mod parts;
 mod plan;
 mod record;
-#[cfg(test)]
-mod tests;
 mod time;
 
 pub use host::Host;

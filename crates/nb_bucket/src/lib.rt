@@ -7,8 +7,6 @@ mod forcing;
 mod order;
 mod room;
 mod soonest;
-#[cfg(test)]
-mod tests;
 mod writing;
 
 pub use bucket::Bucket;

@@ -21,6 +21,3 @@ pub use sink::{Sink, WriteFault, write_all};
 /// A call that the outside refused.
 #[derive(Clone, Copy, Debug, PartialEq, Eq)]
 pub struct Failed;
-
-#[cfg(test)]
-mod tests;

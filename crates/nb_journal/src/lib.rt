@@ -12,8 +12,6 @@ mod naming;
 mod replies;
 mod states;
 mod sweeping;
-#[cfg(test)]
-mod tests;
 mod timing;
 
 pub use deciding::is_lawful;

@@ -7,8 +7,6 @@ mod message;
 mod options;
 mod reading;
 mod sums;
-#[cfg(test)]
-mod tests;
 mod writing;
 
 pub use message::{Nd, NdFail};

@@ -20,12 +20,3 @@ pub use planning::plan;
 pub use replayed::is_replayed;
 pub use top::{run, run_inline};
 pub use words_of_command::settings;
-
-#[cfg(test)]
-mod command_tests;
-#[cfg(test)]
-mod fates_tests;
-#[cfg(test)]
-mod scripts;
-#[cfg(test)]
-mod tests;

@@ -14,8 +14,6 @@ mod proxies;
 mod solicitations;
 mod spelling;
 mod tally;
-#[cfg(test)]
-mod tests;
 mod whole;
 mod words;
 

@@ -21,6 +21,3 @@ pub use reading::read;
 pub use script::{Script, ScriptItem};
 pub use why::{ScriptFail, ScriptWhy};
 pub use writing::write;
-
-#[cfg(test)]
-mod tests;

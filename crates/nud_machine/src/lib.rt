@@ -11,8 +11,6 @@ mod news;
 mod packets;
 mod published;
 mod sending;
-#[cfg(test)]
-mod tests;
 mod timer;
 mod updating;
 

@@ -13,6 +13,3 @@ pub use capture::{Capture, Frame, Rec};
 pub use fail::CaptureFail;
 pub use reading::read;
 pub use writing::write;
-
-#[cfg(test)]
-mod tests;

@@ -3,7 +3,5 @@
 
 mod links;
 mod places;
-#[cfg(test)]
-mod tests;
 
 pub use links::Links;

@@ -1,0 +1,17 @@
+//! Tests of the base crates: addresses, the outside, codecs, captures, linked lists and the sequence lock.
+#![tactic(auto)]
+
+#[cfg(test)]
+mod addresses;
+#[cfg(test)]
+mod captures;
+#[cfg(test)]
+mod discovery;
+#[cfg(test)]
+mod link_layer;
+#[cfg(test)]
+mod linked_lists;
+#[cfg(test)]
+mod outside;
+#[cfg(test)]
+mod sequence_lock;

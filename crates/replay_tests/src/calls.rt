@@ -1,0 +1,483 @@
+use neigh_replay::run;
+use nb_base::{Bytes, Items};
+use nb_io::{MemoryFile, MemoryInputs, MemorySink, OpenGate};
+use std::alloc::{AllocError, Global};
+use std::fmt::Write;
+use std::test::Fail;
+
+const SHOW: &str = "host dev eth0 lladdr 02:00:00:00:00:02 inet 10.0.0.2\n@0 neigh show\n";
+
+const HOST: &str = "host dev eth0 lladdr 02:00:00:00:00:02 inet 10.0.0.2\n";
+
+const PACKET: &str =
+    "host dev eth0 lladdr 02:00:00:00:00:02 inet 10.0.0.2\n@0 neigh add 10.0.0.1 dev eth0 lladdr 00:11:22:33:44:55 nud permanent\n@5 send 1 10.0.0.1 4500\n";
+
+const EARLY: &str =
+    "host dev eth0 lladdr 02:00:00:00:00:02 inet 10.0.0.2\n@5 send 1 10.0.0.1 4500\n@6 neigh add 10.0.0.1 lladdr 00:11:22:33:44:55\n";
+
+const OTHER_DEVICE: &str =
+    "host dev eth0 lladdr 02:00:00:00:00:02 inet 10.0.0.2\n@0 neigh add 10.0.0.1 dev eth1\n";
+
+const PROXY: &str =
+    "host dev eth0 lladdr 02:00:00:00:00:02 inet 10.0.0.2\n@0 neigh add proxy 10.0.0.1\n";
+
+const PACKET_TO_IP6: &str =
+    "host dev eth0 lladdr 02:00:00:00:00:02 inet6 2001:db8::2\n@0 send 1 2001:db8::1 00\n";
+
+const OTHER_INTERVAL: &str =
+    "host dev eth0 lladdr 02:00:00:00:00:02 inet 10.0.0.2\nparam gc_interval 20000\n";
+
+const DEFAULT_INTERVAL: &str =
+    "host dev eth0 lladdr 02:00:00:00:00:02 inet 10.0.0.2\nparam gc_interval 30000\n";
+
+const FOUR_SENDERS: &str = "\
+host dev eth0 lladdr 02:00:00:00:00:02 inet 10.0.0.2
+senders 4
+@0 neigh add 10.0.0.1 lladdr 00:11:22:33:44:55
+@0 send 3 10.0.0.1 0a
+@0 send 1 10.0.0.1 0b
+@5 send 4 10.0.0.1 0c
+@5 neigh add 10.0.0.1 lladdr 00:11:22:33:44:66
+@5 neigh add 10.0.0.3 lladdr 00:11:22:33:44:77
+@5 send 2 10.0.0.3 0d
+@7 send 1 10.0.0.3 0e
+";
+
+const HOST_REPORT: &str =
+    "neigh 1 mode inline buckets 1 senders 1 window 50\nhost dev eth0 lladdr 02:00:00:00:00:02 inet 10.0.0.2\nbucket 0 lines 0\nhost lines 0\nsender 1 items 0\nmarks 0\nfates sent 0 fast 0 dropped 0 waiting 0\ntable 0\nproxies 0\nend\n";
+
+const PACKET_REPORT: &str =
+    "neigh 1 mode inline buckets 1 senders 1 window 50\nhost dev eth0 lladdr 02:00:00:00:00:02 inet 10.0.0.2\nbucket 0 lines 2\n0 0 32 add 10.0.0.1 00:11:22:33:44:55 permanent -> done\n1 5 33 send 10.0.0.1 -> sent\n  tx 33 00112233445502000000000208004500\nhost lines 1\n1 0 neigh op 0 0 done\nsender 1 items 1\n1 5 inline 1 sent\nmarks 0\nfates sent 1 fast 0 dropped 0 waiting 0\ntable 1\n10.0.0.1 dev eth0 lladdr 00:11:22:33:44:55 PERMANENT\nproxies 0\nend\n";
+
+const SHOW_REPORT: &str = "\
+neigh 1 mode inline buckets 1 senders 1 window 50
+host dev eth0 lladdr 02:00:00:00:00:02 inet 10.0.0.2
+bucket 0 lines 1
+0 0 32 show -> counted 0
+host lines 1
+1 0 neigh op 0 0 counted 0
+sender 1 items 0
+marks 0
+fates sent 0 fast 0 dropped 0 waiting 0
+table 0
+proxies 0
+end
+";
+
+const EARLY_REPORT: &str = "\
+neigh 1 mode inline buckets 1 senders 1 window 50
+host dev eth0 lladdr 02:00:00:00:00:02 inet 10.0.0.2
+bucket 0 lines 2
+0 5 33 send 10.0.0.1 -> waits
+  solicit ffffffffffff020000000002080600010800060400010200000000020a0000020000000000000a000001
+  wait 33
+1 6 32 add 10.0.0.1 00:11:22:33:44:55 permanent -> exists
+host lines 1
+1 6 neigh op 0 1 exists
+sender 1 items 1
+1 5 inline 0 waits
+marks 0
+fates sent 0 fast 0 dropped 0 waiting 1
+table 1
+10.0.0.1 dev eth0 INCOMPLETE
+proxies 0
+end
+";
+
+const FOUR_SENDERS_REPORT: &str = "\
+neigh 1 mode inline buckets 1 senders 4 window 70
+host dev eth0 lladdr 02:00:00:00:00:02 inet 10.0.0.2
+bucket 0 lines 8
+0 0 32 add 10.0.0.1 00:11:22:33:44:55 permanent -> done
+1 0 33 send 10.0.0.1 -> sent
+  tx 33 00112233445502000000000208000b
+2 0 35 send 10.0.0.1 -> sent
+  tx 35 00112233445502000000000208000a
+3 5 64 add 10.0.0.1 00:11:22:33:44:66 permanent -> exists
+4 5 96 add 10.0.0.3 00:11:22:33:44:77 permanent -> done
+5 5 34 send 10.0.0.3 -> sent
+  tx 34 00112233447702000000000208000d
+6 5 36 send 10.0.0.1 -> sent
+  tx 36 00112233445502000000000208000c
+7 7 65 send 10.0.0.3 -> sent
+  tx 65 00112233447702000000000208000e
+host lines 3
+1 0 neigh op 0 0 done
+2 5 neigh op 0 3 exists
+3 5 neigh op 0 4 done
+sender 1 items 2
+1 0 inline 1 sent
+2 7 inline 7 sent
+sender 2 items 1
+1 5 inline 5 sent
+sender 3 items 1
+1 0 inline 2 sent
+sender 4 items 1
+1 5 inline 6 sent
+marks 0
+fates sent 5 fast 0 dropped 0 waiting 0
+table 2
+10.0.0.1 dev eth0 lladdr 00:11:22:33:44:55 PERMANENT
+10.0.0.3 dev eth0 lladdr 00:11:22:33:44:77 PERMANENT
+proxies 0
+end
+";
+
+const USAGE: &str =
+    "neigh: usage: neigh --script FILE [--capture FILE] [--mode inline|threads] [--window MS] [--buckets N]\n";
+
+// A call of the command over one file `s`, with the call numbers that are to fail.
+struct Call {
+    shows: &'static str,
+    words: &'static [&'static str],
+    script: &'static str,
+    read_fails: u32,
+    write_fails: u32,
+    status: u8,
+    out: &'static str,
+    err: &'static str,
+}
+
+const NAMED: &[&str] = &["--script", "s"];
+
+const CALLS: [Call; 20] = [
+    Call {
+        shows: "host_alone",
+        words: NAMED,
+        script: HOST,
+        read_fails: 0,
+        write_fails: 0,
+        status: 0,
+        out: HOST_REPORT,
+        err: "",
+    },
+    Call {
+        shows: "permanent_entry_and_packet",
+        words: NAMED,
+        script: PACKET,
+        read_fails: 0,
+        write_fails: 0,
+        status: 0,
+        out: PACKET_REPORT,
+        err: "",
+    },
+    Call {
+        shows: "a look at an empty table",
+        words: NAMED,
+        script: SHOW,
+        read_fails: 0,
+        write_fails: 0,
+        status: 0,
+        out: SHOW_REPORT,
+        err: "",
+    },
+    Call {
+        shows: "a packet before its entry",
+        words: NAMED,
+        script: EARLY,
+        read_fails: 0,
+        write_fails: 0,
+        status: 0,
+        out: EARLY_REPORT,
+        err: "",
+    },
+    Call {
+        shows: "a proxy line isn't built",
+        words: NAMED,
+        script: PROXY,
+        read_fails: 0,
+        write_fails: 0,
+        status: 9,
+        out: "",
+        err: "neigh: not built\n",
+    },
+    Call {
+        shows: "a packet to an IPv6 address isn't built",
+        words: NAMED,
+        script: PACKET_TO_IP6,
+        read_fails: 0,
+        write_fails: 0,
+        status: 9,
+        out: "",
+        err: "neigh: not built\n",
+    },
+    Call {
+        shows: "another sweep interval isn't built",
+        words: NAMED,
+        script: OTHER_INTERVAL,
+        read_fails: 0,
+        write_fails: 0,
+        status: 9,
+        out: "",
+        err: "neigh: not built\n",
+    },
+    Call {
+        shows: "the default sweep interval",
+        words: NAMED,
+        script: DEFAULT_INTERVAL,
+        read_fails: 0,
+        write_fails: 0,
+        status: 0,
+        out: HOST_REPORT,
+        err: "",
+    },
+    Call {
+        shows: "four senders with equal moments",
+        words: &["--window=70", "--script", "s"],
+        script: FOUR_SENDERS,
+        read_fails: 0,
+        write_fails: 0,
+        status: 0,
+        out: FOUR_SENDERS_REPORT,
+        err: "",
+    },
+    Call {
+        shows: "show_before_host",
+        words: NAMED,
+        script: "@0 neigh show\n",
+        read_fails: 0,
+        write_fails: 0,
+        status: 5,
+        out: "",
+        err: "neigh: script refused: 11 at line 1\n",
+    },
+    Call {
+        shows: "other_device",
+        words: NAMED,
+        script: OTHER_DEVICE,
+        read_fails: 0,
+        write_fails: 0,
+        status: 5,
+        out: "",
+        err: "neigh: script refused: 9 at line 2\n",
+    },
+    Call {
+        shows: "empty_script",
+        words: NAMED,
+        script: "",
+        read_fails: 0,
+        write_fails: 0,
+        status: 5,
+        out: "",
+        err: "neigh: script refused: 11 at line 1\n",
+    },
+    Call {
+        shows: "65 buckets",
+        words: &["--script", "s", "--buckets", "65"],
+        script: HOST,
+        read_fails: 0,
+        write_fails: 0,
+        status: 2,
+        out: "",
+        err: USAGE,
+    },
+    Call {
+        shows: "no_words",
+        words: &[],
+        script: HOST,
+        read_fails: 0,
+        write_fails: 0,
+        status: 2,
+        out: "",
+        err: USAGE,
+    },
+    Call {
+        shows: "a name that begins with a dash",
+        words: &["--script", "-s"],
+        script: HOST,
+        read_fails: 0,
+        write_fails: 0,
+        status: 2,
+        out: "",
+        err: USAGE,
+    },
+    Call {
+        shows: "a word too many",
+        words: &["--script", "s", "s"],
+        script: HOST,
+        read_fails: 0,
+        write_fails: 0,
+        status: 2,
+        out: "",
+        err: USAGE,
+    },
+    Call {
+        shows: "failing open",
+        words: NAMED,
+        script: HOST,
+        read_fails: 1,
+        write_fails: 0,
+        status: 3,
+        out: "",
+        err: "neigh: cannot read s\n",
+    },
+    Call {
+        shows: "missing file",
+        words: &["--script", "t"],
+        script: HOST,
+        read_fails: 0,
+        write_fails: 0,
+        status: 3,
+        out: "",
+        err: "neigh: cannot read t\n",
+    },
+    Call {
+        shows: "failing read",
+        words: NAMED,
+        script: HOST,
+        read_fails: 2,
+        write_fails: 0,
+        status: 3,
+        out: "",
+        err: "neigh: cannot read s\n",
+    },
+    Call {
+        shows: "failing sink",
+        words: NAMED,
+        script: HOST,
+        read_fails: 0,
+        write_fails: 2,
+        status: 6,
+        out: "neigh 1 mo",
+        err: "neigh: cannot write\n",
+    },
+];
+
+fn bytes(alloc: Global, text: &str) -> Result<Bytes, AllocError> {
+    Ok(Items::from_vec(Vec::from_slice(alloc, text.as_bytes())?))
+}
+
+fn one_file(alloc: Global, held: Bytes, fails: &[u32]) -> Result<MemoryInputs, AllocError> {
+    let mut files = Vec::new(alloc);
+    files.push(MemoryFile {
+        name: bytes(alloc, "s")?,
+        bytes: held,
+    })?;
+    MemoryInputs::new(alloc, files, fails)
+}
+
+fn strings(alloc: Global, words: &[&str]) -> Result<Vec<String>, AllocError> {
+    let mut strings = Vec::new(alloc);
+    for word in words {
+        strings.push(String::from_str(alloc, word)?)?;
+    }
+    Ok(strings)
+}
+
+#[test]
+fn calls_have_their_reports_statuses_and_lines(rt: HostRuntime) -> Result<(), Fail> {
+    let alloc = rt.alloc();
+    for call in &CALLS {
+        let held = bytes(alloc, call.script)?;
+        let mut inputs = one_file(alloc, held, &[call.read_fails])?;
+        let most = if call.write_fails == 0 { 4096 } else { 10 };
+        let mut out = MemorySink::new(alloc, 4096, most, &[call.write_fails])?;
+        let mut err = MemorySink::new(alloc, 200, 200, &[])?;
+        let words = strings(alloc, call.words)?;
+        let status = run(
+            &rt,
+            alloc,
+            &words,
+            &mut inputs,
+            &mut out,
+            &mut err,
+            &OpenGate,
+        );
+        assert_eq!(rt; status, call.status, "{}", call.shows);
+        assert_eq!(rt; out.bytes(), call.out.as_bytes(), "{}", call.shows);
+        assert_eq!(rt; err.bytes(), call.err.as_bytes(), "{}", call.shows);
+    }
+    Ok(())
+}
+
+/// A host line, and a packet of so many bytes.
+fn packet_of(alloc: Global, len: usize) -> Result<Bytes, AllocError> {
+    let mut text = String::from_str(alloc, HOST)?;
+    text.push_str("@0 send 1 10.0.0.1 ")?;
+    for _ in 0..len {
+        text.push_str("00")?;
+    }
+    Ok(Items::from_vec(text.into_bytes()))
+}
+
+/// The packet is accepted, and waits, or it is refused.
+#[test]
+fn payload_of_1500_and_1501_bytes(rt: HostRuntime) -> Result<(), Fail> {
+    let alloc = rt.alloc();
+    for (len, expected) in [(1500, 0), (1501, 5)] {
+        let mut inputs = one_file(alloc, packet_of(alloc, len)?, &[])?;
+        let mut out = MemorySink::new(alloc, 4096, 4096, &[])?;
+        let mut err = MemorySink::new(alloc, 200, 200, &[])?;
+        let words = strings(alloc, NAMED)?;
+        let status = run(
+            &rt,
+            alloc,
+            &words,
+            &mut inputs,
+            &mut out,
+            &mut err,
+            &OpenGate,
+        );
+        assert_eq!(rt; status, expected, "{len} bytes");
+        if expected == 5 {
+            assert_eq!(rt;
+                err.bytes(),
+                b"neigh: script refused: 7 at line 2\n".as_slice()
+            );
+        }
+    }
+    Ok(())
+}
+
+/// A host line, and packets to so many addresses.
+fn packets_to(alloc: Global, count: u32) -> Result<Bytes, AllocError> {
+    let mut text = String::from_str(alloc, HOST)?;
+    for number in 1..=count {
+        writeln!(text, "@0 send 1 10.0.1.{number} 00")?;
+    }
+    Ok(Items::from_vec(text.into_bytes()))
+}
+
+#[test]
+fn packets_to_127_and_128_addresses(rt: HostRuntime) -> Result<(), Fail> {
+    let alloc = rt.alloc();
+    for (count, expected) in [(127, 0), (128, 9)] {
+        let mut inputs = one_file(alloc, packets_to(alloc, count)?, &[])?;
+        let mut out = MemorySink::new(alloc, 65_536, 65_536, &[])?;
+        let mut err = MemorySink::new(alloc, 200, 200, &[])?;
+        let words = strings(alloc, NAMED)?;
+        let status = run(
+            &rt,
+            alloc,
+            &words,
+            &mut inputs,
+            &mut out,
+            &mut err,
+            &OpenGate,
+        );
+        assert_eq!(rt; status, expected, "{count} addresses");
+    }
+    Ok(())
+}
+
+#[test]
+fn a_script_of_one_byte_more_is_too_long(rt: HostRuntime) -> Result<(), Fail> {
+    let alloc = rt.alloc();
+    let held = Items::from_vec(vec![in alloc; b'#'; 8_388_609]?);
+    let mut inputs = one_file(alloc, held, &[])?;
+    let mut out = MemorySink::new(alloc, 10, 10, &[])?;
+    let mut err = MemorySink::new(alloc, 200, 200, &[])?;
+    let words = strings(alloc, NAMED)?;
+    let status = run(
+        &rt,
+        alloc,
+        &words,
+        &mut inputs,
+        &mut out,
+        &mut err,
+        &OpenGate,
+    );
+    assert_eq!(rt; status, 8);
+    assert_eq!(rt; err.bytes(), b"neigh: too long: s\n".as_slice());
+    Ok(())
+}

@@ -1,0 +1,111 @@
+use neigh_replay::SettingsFail;
+use neigh_replay::settings;
+use nb_base::Mode;
+use std::alloc::{AllocError, Global};
+use std::test::Fail;
+
+// Words of the command, with the script and the window that they ask for.
+const TAKEN: [(&[&str], &str, u32); 17] = [
+    (&["--script", "s"], "s", 50),
+    (&["--script=s"], "s", 50),
+    (&["--script", ""], "", 50),
+    (&["--script="], "", 50),
+    (&["--script=-x"], "-x", 50),
+    (&["--script=-"], "-", 50),
+    (&["--script=--"], "--", 50),
+    (&["--script=a=b"], "a=b", 50),
+    (&["--script", "a b"], "a b", 50),
+    (&["--script", "s", "--mode", "inline"], "s", 50),
+    (&["--mode=inline", "--script", "s"], "s", 50),
+    (&["--script", "s", "--window", "1"], "s", 1),
+    (&["--window", "60000", "--script", "s"], "s", 60_000),
+    (&["--window=0000000060", "--script=s"], "s", 60),
+    (&["--script", "s", "--buckets", "1"], "s", 50),
+    (&["--buckets=0000000001", "--script=s"], "s", 50),
+    (
+        &[
+            "--buckets",
+            "1",
+            "--window=7",
+            "--mode",
+            "inline",
+            "--script",
+            "inline",
+        ],
+        "inline",
+        7,
+    ),
+];
+
+// Words that aren't of the command.
+const OUTSIDE: [&[&str]; 36] = [
+    &[],
+    &["s"],
+    &["--script"],
+    &["--mode", "inline"],
+    &["--script", "s", "t"],
+    &["", "--script", "s"],
+    &["--script", "s", "--script", "t"],
+    &["--script=s", "--script=s"],
+    &["--script", "s", "--window", "50", "--window=50"],
+    &["--script", "s", "--mode", "inline", "--mode", "inline"],
+    &["--script", "s", "--buckets=1", "--buckets", "1"],
+    &["--script", "-"],
+    &["--script", "--"],
+    &["--script", "s", "--"],
+    &["--", "--script", "s"],
+    &["-", "--script", "s"],
+    &["--script", "-x"],
+    &["--script", "--mode", "inline"],
+    &["--scr", "s"],
+    &["--SCRIPT", "s"],
+    &["-script", "s"],
+    &["--help"],
+    &["--script", "s", "-h"],
+    &["--script", "s", "--version"],
+    &["--script", "s", "--capture", "c"],
+    &["--script", "s", "--mode", "threads"],
+    &["--script", "s", "--mode="],
+    &["--script", "s", "--window", "0"],
+    &["--script", "s", "--window", "60001"],
+    &["--script", "s", "--window", "4294967346"],
+    &["--script", "s", "--window", "00000000050"],
+    &["--script", "s", "--window="],
+    &["--script", "s", "--window=-5"],
+    &["--script", "s", "--window", "5s"],
+    &["--script", "s", "--buckets", "2"],
+    &["--script", "s", "--buckets", "4294967297"],
+];
+
+fn strings(alloc: Global, words: &[&str]) -> Result<Vec<String>, AllocError> {
+    let mut strings = Vec::new(alloc);
+    for word in words {
+        strings.push(String::from_str(alloc, word)?)?;
+    }
+    Ok(strings)
+}
+
+#[test]
+fn words_of_the_command_give_their_settings(rt: HostRuntime) -> Result<(), Fail> {
+    let alloc = rt.alloc();
+    for (words, script, window) in &TAKEN {
+        let words = strings(alloc, words)?;
+        let asked = settings(alloc, &words).map_err(|_| "settings")?;
+        assert_eq!(rt; asked.script.as_str(), *script);
+        assert_eq!(rt; asked.window, *window, "{}", *script);
+        assert_eq!(rt; asked.mode, Mode::Inline);
+        assert_eq!(rt; asked.buckets, 1);
+    }
+    Ok(())
+}
+
+#[test]
+fn other_words_are_outside_the_command(rt: HostRuntime) -> Result<(), Fail> {
+    let alloc = rt.alloc();
+    for words in &OUTSIDE {
+        let words = strings(alloc, words)?;
+        let outside = matches!(settings(alloc, &words), Err(SettingsFail::Usage));
+        assert!(rt; outside, "{words:?}");
+    }
+    Ok(())
+}

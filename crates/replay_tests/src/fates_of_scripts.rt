@@ -1,0 +1,47 @@
+ghost use Rattle.std.specs.Prelude.{◌≤◌, length};
+ghost use Rattle.neigh_script.specs.Limits as limits;
+
+use neigh_replay::{ReplayFail, plan, replay_inline};
+use neigh_report::{Fates, fates};
+use neigh_script::{Script, read};
+use std::alloc::Global;
+use std::test::Fail;
+
+/// Two packets go to a permanent entry. Of four to an address that never answers one is dropped by the full queue and three with the last probe,
+/// and one to another such address still waits.
+const SEVEN_PACKETS: &str = "\
+host dev eth0 lladdr 02:00:00:00:00:02 inet 10.0.0.2
+@0 neigh add 10.0.0.5 lladdr 00:11:22:33:44:55
+@0 send 1 10.0.0.1 01
+@0 send 1 10.0.0.1 02
+@0 send 1 10.0.0.1 03
+@0 send 1 10.0.0.1 04
+@1 send 1 10.0.0.5 05
+@3500 send 1 10.0.0.5 06
+@3600 send 1 10.0.0.9 07
+";
+
+/// What became of the packets of a script, by one thread.
+fn fates_of(alloc: Global, script: &Script) -> Result<Fates, ReplayFail>
+    requires within { limits.IsWithinLimits script.now }
+    requires few { length script.now.items ≤ 131_072 }
+{
+    let plan = plan(alloc, script, 50, 1)?;
+    let run = replay_inline(alloc, plan)?;
+    Ok(fates(alloc, &run)?)
+}
+
+#[test]
+fn fates_of_seven_packets(rt: HostRuntime) -> Result<(), Fail> {
+    let alloc = rt.alloc();
+    let script = read(alloc, SEVEN_PACKETS.as_bytes()).map_err(|_| "a script")?;
+    let fates = fates_of(alloc, &script).map_err(|_| "a run")?;
+    let expected = Fates {
+        sent: 2,
+        fast: 0,
+        dropped: 4,
+        waiting: 1,
+    };
+    assert_eq!(rt; fates, expected);
+    Ok(())
+}

@@ -1,0 +1,15 @@
+//! Tests of scripts, reports and the whole replay.
+#![tactic(auto)]
+
+#[cfg(test)]
+mod calls;
+#[cfg(test)]
+mod command_words;
+#[cfg(test)]
+mod fates_of_scripts;
+#[cfg(test)]
+mod reports;
+#[cfg(test)]
+mod script_language;
+#[cfg(test)]
+mod scripts;
