@@ -1,4 +1,4 @@
-use hh_core::{Core, Known, Phase, Step, Stop, Try, Writer};
+use hh_core::{Core, Known, ReaderPhase, Step, Stop, Try, WriterPhase};
 use std::alloc::{AllocError, Global};
 use std::test::Fail;
 
@@ -230,7 +230,7 @@ fn end_before_words(rt: HostRuntime) -> Result<(), Fail> {
     let mut core = Core::new(rt.alloc(), (5, 6), 0)?;
     let steps = [BEGIN_7_8, END];
     assert_eq!(rt; core.run(&steps), Err(Stop::NotEnabled(1)));
-    assert_eq!(rt; core.writer(), Writer::Begun(7, 8));
+    assert_eq!(rt; core.writer(), WriterPhase::Begun(7, 8));
     assert_eq!(rt; core.words(), (5, 6));
     assert_eq!(rt; core.number(), 1);
     Ok(())
@@ -249,7 +249,7 @@ fn reader_between_the_writers_steps(rt: HostRuntime) -> Result<(), Fail> {
     ];
     assert_eq!(rt; core.run(&steps), Err(Stop::NotEnabled(5)));
     assert_eq!(rt; core.tries(0).ok_or("a reader")?, [(1, 1)].as_slice());
-    assert_eq!(rt; core.phase(0), Some(Phase::Rest));
+    assert_eq!(rt; core.phase(0), Some(ReaderPhase::Rest));
     Ok(())
 }
 

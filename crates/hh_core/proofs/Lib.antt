@@ -6,3 +6,4 @@ pub mod Slots
 pub mod Taken
 pub mod Running
 pub mod GoodTries
+pub mod Resting

@@ -1,5 +1,6 @@
 -- Lists whose one element changes, and numbers that rise.
-use Rattle.std.proofs.Common.{◌≡◌, ℕ, zero, suc, ◌-◌, ◌≤◌, List, [], ◌∷◌, ◌++◌, length, get_or, Some, refl, subst, arith}
+use Rattle.std.proofs.Common.{◌≡◌, ◌≢◌, ℕ, zero, suc, ◌-◌, ◌≤◌, List, [], ◌∷◌, ◌++◌, length, get_or, Some, refl, ap, subst, arith}
+use Rattle.std.specs.Option.{option_map}
 use Rattle.std.specs.List.{All, slice_get}
 use Rattle.std.proofs.lemmas.List.Elements.{All-cons, All-head, All-tail, All-push, All-weaker}
 use Rattle.std.proofs.lemmas.List.Sorted.{IsNonDecreasingBy-push}
@@ -41,3 +42,23 @@ RisesTo-more most n xs up h = record {
   rises = h.rises;
   within = All-weaker (λ k. k ≤ most) (λ k. k ≤ n) (λ k small. omega arith) xs h.within;
 }
+
+-- the reader that changes
+pub change_here : (f : ReaderState → ReaderState) (xs : List ReaderState) (r : ℕ) (x : ReaderState) → slice_get xs r ≡ Some x → slice_get (change_at f xs r) r ≡ Some (f x)
+change_here f [] r x e = cc
+change_here f (y ∷ ys) zero x e = ap (option_map f) e
+change_here f (y ∷ ys) (suc r) x e = change_here f ys r x e
+
+-- the others
+pub change_else : (f : ReaderState → ReaderState) (xs : List ReaderState) (r k : ℕ) → k ≢ r → slice_get (change_at f xs r) k ≡ slice_get xs k
+change_else f [] r k n = refl
+change_else f (y ∷ ys) zero zero n = absurd (n refl)
+change_else f (y ∷ ys) zero (suc k) n = refl
+change_else f (y ∷ ys) (suc r) zero n = refl
+change_else f (y ∷ ys) (suc r) (suc k) n = change_else f ys r k (λ e. n (ap suc e))
+
+-- how many there are
+pub length-change_at : (f : ReaderState → ReaderState) (xs : List ReaderState) (r : ℕ) → length (change_at f xs r) ≡ length xs
+length-change_at f [] r = refl
+length-change_at f (y ∷ ys) zero = refl
+length-change_at f (y ∷ ys) (suc r) = ap suc (length-change_at f ys r)

@@ -6,13 +6,13 @@ use Rattle.std.proofs.lemmas.List.Elements.{All-nil, All-replicate}
 use Rattle.std.proofs.lemmas.List.Sorted.{IsNonDecreasingBy-short}
 use Rattle.hh_core.specs.declared.step.Step.{Step}
 use Rattle.hh_core.specs.declared.step.Step.TheVariants as step
-use Rattle.hh_core.specs.declared.step.Writer.{Writer}
-use Rattle.hh_core.specs.declared.step.Writer.TheVariants.{Idle, Begun, WroteA, WroteB}
-use Rattle.hh_core.specs.declared.reader.Phase.{Phase}
-use Rattle.hh_core.specs.declared.reader.Phase.TheVariants.{Rest, HasFirst, HasA, HasB}
+use Rattle.hh_core.specs.declared.step.WriterPhase.{WriterPhase}
+use Rattle.hh_core.specs.declared.step.WriterPhase.TheVariants.{Idle, Begun, WroteA, WroteB}
+use Rattle.hh_core.specs.declared.reader.ReaderPhase.{ReaderPhase}
+use Rattle.hh_core.specs.declared.reader.ReaderPhase.TheVariants.{Rest, HasFirst, HasA, HasB}
 use Rattle.hh_core.specs.State.{State, ReaderState, fresh_reader, last_number, phase_of, change_at}
 use Rattle.hh_core.specs.Step.{is_good, is_idle, has_begun, wrote_a, wrote_b, rests, has_first, has_a, has_b, allowed, stores_a, stores_b, ends, to_floor, tries_once, learns, ends_try, after, run}
-use Rattle.hh_core.specs.Safe.{RisesTo, IsReading, IsFirstWithin, KnowsPublished, TriesRise, IsSafe}
+use Rattle.hh_core.specs.Safe.{RisesTo, IsFirstWithin, IsSafeReader, IsSafe}
 use Rattle.hh_core.specs.Laws.{SafeAtFirst, SafeStep, SafeRun, GoodTry, PublishedStays, FloorsRise, floor_of}
 use Rattle.hh_core.proofs.Lists.{All-found, slice_get-grown}
 use Rattle.hh_core.proofs.OneReader.{phase_found, good_is, pair_read}
@@ -22,62 +22,68 @@ use Rattle.hh_core.proofs.Steps.{safe_begin, safe_store_a, safe_store_b, safe_en
 none_rise : (n : ℕ) → RisesTo n []
 none_rise n = record { rises = IsNonDecreasingBy-short (λ k. k) [] (omega arith); within = All-nil (λ k. k ≤ n) }
 
+-- a reader that has seen nothing
+pub safe_fresh : (number : ℕ) (published : List (ℕ × ℕ)) → IsSafeReader number published fresh_reader
+safe_fresh number published = record {
+  reading = record { floor = omega arith; first = tt; words = tt };
+  known = record { pairs = All-nil (λ known. slice_get published known.0 ≡ Some known.1); numbers = none_rise 0 };
+  tries = none_rise number;
+}
+
 pub safe_at_first : SafeAtFirst
 safe_at_first pair readers = record {
   written = record { number = refl; words = refl };
-  reading = All-replicate (IsReading 0 (pair ∷ [])) readers fresh_reader (record { floor = omega arith; first = tt; words = tt });
-  known = All-replicate (KnowsPublished (pair ∷ [])) readers fresh_reader (record { pairs = All-nil (λ known. slice_get (pair ∷ []) known.0 ≡ Some known.1); numbers = none_rise 0 });
-  tries = All-replicate (TriesRise 0) readers fresh_reader (none_rise 0);
+  readers = All-replicate (IsSafeReader 0 (pair ∷ [])) readers fresh_reader (safe_fresh 0 (pair ∷ []));
 }
 
 -- where the writer's steps are allowed
-idle_is : (w : Writer) → IsTrue (is_idle w) → w ≡ Idle
+idle_is : (w : WriterPhase) → IsTrue (is_idle w) → w ≡ Idle
 idle_is Idle ok = refl
 idle_is (Begun x y) ok = absurd (false≢true ok)
 idle_is (WroteA x y) ok = absurd (false≢true ok)
 idle_is (WroteB x y) ok = absurd (false≢true ok)
 
-by_store_a : (w : Writer) (s : State) → s.writer ≡ w → IsTrue (has_begun w) → IsSafe s → IsSafe (stores_a w s)
+by_store_a : (w : WriterPhase) (s : State) → s.writer ≡ w → IsTrue (has_begun w) → IsSafe s → IsSafe (stores_a w s)
 by_store_a Idle s is ok h = absurd (false≢true ok)
 by_store_a (Begun x y) s is ok h = safe_store_a s x y is h
 by_store_a (WroteA x y) s is ok h = absurd (false≢true ok)
 by_store_a (WroteB x y) s is ok h = absurd (false≢true ok)
 
-by_store_b : (w : Writer) (s : State) → s.writer ≡ w → IsTrue (wrote_a w) → IsSafe s → IsSafe (stores_b w s)
+by_store_b : (w : WriterPhase) (s : State) → s.writer ≡ w → IsTrue (wrote_a w) → IsSafe s → IsSafe (stores_b w s)
 by_store_b Idle s is ok h = absurd (false≢true ok)
 by_store_b (Begun x y) s is ok h = absurd (false≢true ok)
 by_store_b (WroteA x y) s is ok h = safe_store_b s x y is h
 by_store_b (WroteB x y) s is ok h = absurd (false≢true ok)
 
-by_end : (w : Writer) (s : State) → s.writer ≡ w → IsTrue (wrote_b w) → IsSafe s → IsSafe (ends w s)
+by_end : (w : WriterPhase) (s : State) → s.writer ≡ w → IsTrue (wrote_b w) → IsSafe s → IsSafe (ends w s)
 by_end Idle s is ok h = absurd (false≢true ok)
 by_end (Begun x y) s is ok h = absurd (false≢true ok)
 by_end (WroteA x y) s is ok h = absurd (false≢true ok)
 by_end (WroteB x y) s is ok h = safe_end s x y is h
 
 -- where a reader's steps are allowed
-rests_is : (o : Option Phase) → IsTrue (rests o) → o ≡ Some Rest
+rests_is : (o : Option ReaderPhase) → IsTrue (rests o) → o ≡ Some Rest
 rests_is None ok = absurd (false≢true ok)
 rests_is (Some Rest) ok = refl
 rests_is (Some (HasFirst n)) ok = absurd (false≢true ok)
 rests_is (Some (HasA n x)) ok = absurd (false≢true ok)
 rests_is (Some (HasB n x y)) ok = absurd (false≢true ok)
 
-first_is : (o : Option Phase) → IsTrue (has_first o) → (n : ℕ) × (o ≡ Some (HasFirst n))
+first_is : (o : Option ReaderPhase) → IsTrue (has_first o) → (n : ℕ) × (o ≡ Some (HasFirst n))
 first_is None ok = absurd (false≢true ok)
 first_is (Some Rest) ok = absurd (false≢true ok)
 first_is (Some (HasFirst n)) ok = (n, refl)
 first_is (Some (HasA n x)) ok = absurd (false≢true ok)
 first_is (Some (HasB n x y)) ok = absurd (false≢true ok)
 
-a_is : (o : Option Phase) → IsTrue (has_a o) → (n : ℕ) × (x : ℕ) × (o ≡ Some (HasA n x))
+a_is : (o : Option ReaderPhase) → IsTrue (has_a o) → (n : ℕ) × (x : ℕ) × (o ≡ Some (HasA n x))
 a_is None ok = absurd (false≢true ok)
 a_is (Some Rest) ok = absurd (false≢true ok)
 a_is (Some (HasFirst n)) ok = absurd (false≢true ok)
 a_is (Some (HasA n x)) ok = (n, x, refl)
 a_is (Some (HasB n x y)) ok = absurd (false≢true ok)
 
-b_is : (o : Option Phase) → IsTrue (has_b o) → (n : ℕ) × (x : ℕ) × (y : ℕ) × (o ≡ Some (HasB n x y))
+b_is : (o : Option ReaderPhase) → IsTrue (has_b o) → (n : ℕ) × (x : ℕ) × (y : ℕ) × (o ≡ Some (HasB n x y))
 b_is None ok = absurd (false≢true ok)
 b_is (Some Rest) ok = absurd (false≢true ok)
 b_is (Some (HasFirst n)) ok = absurd (false≢true ok)
@@ -115,21 +121,21 @@ published_step : (x : Step) (s : State) (k : ℕ) (pair : ℕ × ℕ) → slice_
 published_step (step.Begin x y) s k pair e = e
 published_step step.StoreA s k pair e = by_writer s.writer
   where
-    by_writer : (w : Writer) → slice_get (stores_a w s).published k ≡ Some pair
+    by_writer : (w : WriterPhase) → slice_get (stores_a w s).published k ≡ Some pair
     by_writer Idle = e
     by_writer (Begun x y) = e
     by_writer (WroteA x y) = e
     by_writer (WroteB x y) = e
 published_step step.StoreB s k pair e = by_writer s.writer
   where
-    by_writer : (w : Writer) → slice_get (stores_b w s).published k ≡ Some pair
+    by_writer : (w : WriterPhase) → slice_get (stores_b w s).published k ≡ Some pair
     by_writer Idle = e
     by_writer (Begun x y) = e
     by_writer (WroteA x y) = e
     by_writer (WroteB x y) = e
 published_step step.End s k pair e = by_writer s.writer
   where
-    by_writer : (w : Writer) → slice_get (ends w s).published k ≡ Some pair
+    by_writer : (w : WriterPhase) → slice_get (ends w s).published k ≡ Some pair
     by_writer Idle = e
     by_writer (Begun x y) = e
     by_writer (WroteA x y) = e
@@ -155,7 +161,7 @@ good_try s r n pair h e = good_read (slice_get s.readers r) refl
         nothing_loaded found = let no = rw found at e.loaded in cc
     good_read (Some x) found =
         let seen = good_is n s.number e.good in
-        pair_read s x n pair.0 pair.1 (phase_found s.readers r x (HasB n pair.0 pair.1) found e.loaded) seen.0 seen.1 h.written (All-found (IsReading s.number s.published) s.readers r x found h.reading)
+        pair_read s x n pair.0 pair.1 (phase_found s.readers r x (HasB n pair.0 pair.1) found e.loaded) seen.0 seen.1 h.written (All-found (IsSafeReader s.number s.published) s.readers r x found h.readers).reading
 
 -- floors
 floors_change : (f : ReaderState → ReaderState) (xs : List ReaderState) (q r : ℕ) → ((x : ReaderState) → slice_get xs q ≡ Some x → x.floor ≤ (f x).floor) → floor_of xs r ≤ floor_of (change_at f xs q) r
@@ -169,7 +175,7 @@ by_learning : (good : Bool) (learnt tried x : ReaderState) → x.floor ≤ learn
 by_learning true learnt tried x a b = a
 by_learning false learnt tried x a b = b
 
-floor_second : (p : Phase) (x : ReaderState) (number : ℕ) → IsFirstWithin number x.floor p → x.floor ≤ (ends_try number p x).floor
+floor_second : (p : ReaderPhase) (x : ReaderState) (number : ℕ) → IsFirstWithin number x.floor p → x.floor ≤ (ends_try number p x).floor
 floor_second Rest x number h = omega arith
 floor_second (HasFirst n) x number h = omega arith
 floor_second (HasA n a) x number h = omega arith
@@ -179,21 +185,21 @@ floors_step : (x : Step) (s : State) (r : ℕ) → IsSafe s → floor_of s.reade
 floors_step (step.Begin x y) s r h = omega arith
 floors_step step.StoreA s r h = by_writer s.writer
   where
-    by_writer : (w : Writer) → floor_of s.readers r ≤ floor_of (stores_a w s).readers r
+    by_writer : (w : WriterPhase) → floor_of s.readers r ≤ floor_of (stores_a w s).readers r
     by_writer Idle = omega arith
     by_writer (Begun x y) = omega arith
     by_writer (WroteA x y) = omega arith
     by_writer (WroteB x y) = omega arith
 floors_step step.StoreB s r h = by_writer s.writer
   where
-    by_writer : (w : Writer) → floor_of s.readers r ≤ floor_of (stores_b w s).readers r
+    by_writer : (w : WriterPhase) → floor_of s.readers r ≤ floor_of (stores_b w s).readers r
     by_writer Idle = omega arith
     by_writer (Begun x y) = omega arith
     by_writer (WroteA x y) = omega arith
     by_writer (WroteB x y) = omega arith
 floors_step step.End s r h = by_writer s.writer
   where
-    by_writer : (w : Writer) → floor_of s.readers r ≤ floor_of (ends w s).readers r
+    by_writer : (w : WriterPhase) → floor_of s.readers r ≤ floor_of (ends w s).readers r
     by_writer Idle = omega arith
     by_writer (Begun x y) = omega arith
     by_writer (WroteA x y) = omega arith
@@ -201,8 +207,8 @@ floors_step step.End s r h = by_writer s.writer
 floors_step (step.First q) s r h = floors_change _ s.readers q r (λ x e. omega arith)
 floors_step (step.LoadA q) s r h = floors_change _ s.readers q r (λ x e. omega arith)
 floors_step (step.LoadB q) s r h = floors_change _ s.readers q r (λ x e. omega arith)
-floors_step (step.Second q) s r h = floors_change (λ x. ends_try s.number x.phase x) s.readers q r (λ x e. let found = All-found (IsReading s.number s.published) s.readers q x e h.reading in floor_second x.phase x s.number found.first)
-floors_step (step.Meet q) s r h = floors_change (to_floor (last_number s)) s.readers q r (λ x e. let found = All-found (IsReading s.number s.published) s.readers q x e h.reading in found.floor)
+floors_step (step.Second q) s r h = floors_change (λ x. ends_try s.number x.phase x) s.readers q r (λ x e. let found = All-found (IsSafeReader s.number s.published) s.readers q x e h.readers in floor_second x.phase x s.number found.reading.first)
+floors_step (step.Meet q) s r h = floors_change (to_floor (last_number s)) s.readers q r (λ x e. let found = All-found (IsSafeReader s.number s.published) s.readers q x e h.readers in found.reading.floor)
 
 ≤_through : (a b c : ℕ) → a ≤ b → b ≤ c → a ≤ c
 ≤_through a b c p q = omega arith
@@ -216,21 +222,21 @@ pub published_grows : (x : Step) (s : State) → length (after x s).published �
 published_grows (step.Begin x y) s = omega arith
 published_grows step.StoreA s = by_writer s.writer
   where
-    by_writer : (w : Writer) → length (stores_a w s).published ≤ length s.published + 1
+    by_writer : (w : WriterPhase) → length (stores_a w s).published ≤ length s.published + 1
     by_writer Idle = omega arith
     by_writer (Begun x y) = omega arith
     by_writer (WroteA x y) = omega arith
     by_writer (WroteB x y) = omega arith
 published_grows step.StoreB s = by_writer s.writer
   where
-    by_writer : (w : Writer) → length (stores_b w s).published ≤ length s.published + 1
+    by_writer : (w : WriterPhase) → length (stores_b w s).published ≤ length s.published + 1
     by_writer Idle = omega arith
     by_writer (Begun x y) = omega arith
     by_writer (WroteA x y) = omega arith
     by_writer (WroteB x y) = omega arith
 published_grows step.End s = by_writer s.writer
   where
-    by_writer : (w : Writer) → length (ends w s).published ≤ length s.published + 1
+    by_writer : (w : WriterPhase) → length (ends w s).published ≤ length s.published + 1
     by_writer Idle = omega arith
     by_writer (Begun x y) = omega arith
     by_writer (WroteA x y) = omega arith

@@ -3,8 +3,8 @@ use Rattle.std.proofs.Common.{◌≡◌, ℕ, zero, suc, ◌<◌, ◌≤◌, Lis
 use Rattle.std.specs.List.{All, slice_get}
 use Rattle.std.proofs.lemmas.Option.{slice_get-map, slice_get_read}
 use Rattle.hh_core.specs.declared.reader.Reader.{Reader}
-use Rattle.hh_core.specs.declared.reader.Phase.{Phase}
-use Rattle.hh_core.specs.declared.reader.Phase.TheVariants.{HasFirst, HasA, HasB}
+use Rattle.hh_core.specs.declared.reader.ReaderPhase.{ReaderPhase}
+use Rattle.hh_core.specs.declared.reader.ReaderPhase.TheVariants.{HasFirst, HasA, HasB}
 use Rattle.hh_core.specs.State.{ReaderState, phase_of, change_at}
 use Rattle.hh_core.specs.Step.{to_phase, loads_a, loads_b, ends_try}
 use Rattle.hh_core.specs.Shown.{reader_state, HasRoom}
@@ -27,13 +27,13 @@ pub phase_read : (xs : List Reader) (r : ℕ) (x : Reader) → r < length xs →
 phase_read xs r x small is = let found : slice_get xs r ≡ Some x = slice_get_read xs (length xs) r x refl small is in rw (slice_get-map reader_state xs r, found) refl
 
 pub change_load_a : (xs : List ReaderState) (r n a : ℕ) → phase_of xs r ≡ Some (HasFirst n) → change_at (to_phase (HasA n a)) xs r ≡ change_at (λ x. to_phase (loads_a a x.phase) x) xs r
-change_load_a xs r n a is = change_at_same (to_phase (HasA n a)) (λ x. to_phase (loads_a a x.phase) x) xs r (λ x e. ap (λ (p : Phase). to_phase (loads_a a p) x) (sym (phase_found xs r x (HasFirst n) e is)))
+change_load_a xs r n a is = change_at_same (to_phase (HasA n a)) (λ x. to_phase (loads_a a x.phase) x) xs r (λ x e. ap (λ (p : ReaderPhase). to_phase (loads_a a p) x) (sym (phase_found xs r x (HasFirst n) e is)))
 
 pub change_load_b : (xs : List ReaderState) (r n a b : ℕ) → phase_of xs r ≡ Some (HasA n a) → change_at (to_phase (HasB n a b)) xs r ≡ change_at (λ x. to_phase (loads_b b x.phase) x) xs r
-change_load_b xs r n a b is = change_at_same (to_phase (HasB n a b)) (λ x. to_phase (loads_b b x.phase) x) xs r (λ x e. ap (λ (p : Phase). to_phase (loads_b b p) x) (sym (phase_found xs r x (HasA n a) e is)))
+change_load_b xs r n a b is = change_at_same (to_phase (HasB n a b)) (λ x. to_phase (loads_b b x.phase) x) xs r (λ x e. ap (λ (p : ReaderPhase). to_phase (loads_b b p) x) (sym (phase_found xs r x (HasA n a) e is)))
 
 pub change_second : (xs : List ReaderState) (r n a b second : ℕ) → phase_of xs r ≡ Some (HasB n a b) → change_at (ends_try second (HasB n a b)) xs r ≡ change_at (λ x. ends_try second x.phase x) xs r
-change_second xs r n a b second is = change_at_same (ends_try second (HasB n a b)) (λ x. ends_try second x.phase x) xs r (λ x e. ap (λ (p : Phase). ends_try second p x) (sym (phase_found xs r x (HasB n a b) e is)))
+change_second xs r n a b second is = change_at_same (ends_try second (HasB n a b)) (λ x. ends_try second x.phase x) xs r (λ x e. ap (λ (p : ReaderPhase). ends_try second p x) (sym (phase_found xs r x (HasB n a b) e is)))
 
 -- less room
 pub HasRoom-less : (n m : ℕ) → m ≤ n → (x : Reader) → HasRoom n x → HasRoom m x
@@ -44,8 +44,8 @@ pub room_found : (n : ℕ) (xs : List Reader) (r : ℕ) (x : Reader) → r < len
 room_found n xs r x small is h = let F : Reader → Type 0 = HasRoom n in subst F (sym is) (h r x small)
 
 -- the phase that was read, as the lists have it
-pub phase_known : (p q : Phase) (xs ys : List Reader) (r : ℕ) → p ≡ q → ys ≡ xs → Some p ≡ phase_of (map reader_state ys) r → phase_of (map reader_state xs) r ≡ Some q
+pub phase_known : (p q : ReaderPhase) (xs ys : List Reader) (r : ℕ) → p ≡ q → ys ≡ xs → Some p ≡ phase_of (map reader_state ys) r → phase_of (map reader_state xs) r ≡ Some q
 phase_known p q xs ys r is same e =
-    let F : Phase → Type 0 = λ v. Some v ≡ phase_of (map reader_state ys) r in
+    let F : ReaderPhase → Type 0 = λ v. Some v ≡ phase_of (map reader_state ys) r in
     let G : List Reader → Type 0 = λ zs. Some q ≡ phase_of (map reader_state zs) r in
     sym (subst G same (subst F is e))

@@ -2,10 +2,10 @@
 use Rattle.std.specs.Prelude.{◌≡◌, ℕ, ◌+◌, ◌-◌, ◌*◌, ◌/◌, ◌%◌, ◌≤◌, if◌then◌else◌, List, [], ◌∷◌, ◌++◌, length, map, slice_get, Option, Some, None, IfSome, IsSomeAnd}
 use Rattle.std.specs.List.{All}
 use Rattle.std.specs.List.Sorted.{IsNonDecreasing}
-use Rattle.hh_core.specs.declared.step.Writer.{Writer}
-use Rattle.hh_core.specs.declared.step.Writer.TheVariants.{Idle, Begun, WroteA, WroteB}
-use Rattle.hh_core.specs.declared.reader.Phase.{Phase}
-use Rattle.hh_core.specs.declared.reader.Phase.TheVariants.{Rest, HasFirst, HasA, HasB}
+use Rattle.hh_core.specs.declared.step.WriterPhase.{WriterPhase}
+use Rattle.hh_core.specs.declared.step.WriterPhase.TheVariants.{Idle, Begun, WroteA, WroteB}
+use Rattle.hh_core.specs.declared.reader.ReaderPhase.{ReaderPhase}
+use Rattle.hh_core.specs.declared.reader.ReaderPhase.TheVariants.{Rest, HasFirst, HasA, HasB}
 use Rattle.hh_core.specs.State.{State, ReaderState, last_number}
 use Rattle.hh_core.specs.Step.{is_idle}
 
@@ -15,7 +15,7 @@ pub record RisesTo (most : ℕ) (numbers : List ℕ) : Type 0 where
   pub within : All (λ n. n ≤ most) numbers
 
 -- the two words, by the writer's phase, where this is the last published pair
-abbrev pub words_in : Writer → ℕ × ℕ → ℕ × ℕ
+abbrev pub words_in : WriterPhase → ℕ × ℕ → ℕ × ℕ
 words_in Idle last = last
 words_in (Begun x y) last = last
 words_in (WroteA x y) last = (x, last.1)
@@ -28,25 +28,25 @@ pub record IsWritten (s : State) : Type 0 where
   pub words : IsSomeAnd (slice_get s.published (last_number s)) (λ last. (s.a, s.b) ≡ words_in s.writer last)
 
 -- the number that a reader has loaded in the try that it is in
-abbrev pub first_number : Phase → Option ℕ
+abbrev pub first_number : ReaderPhase → Option ℕ
 first_number Rest = None
 first_number (HasFirst n) = Some n
 first_number (HasA n x) = Some n
 first_number (HasB n x y) = Some n
 
 -- the words that were loaded so far are the pair's
-abbrev pub HoldsWords : Phase → ℕ × ℕ → Type 0
+abbrev pub HoldsWords : ReaderPhase → ℕ × ℕ → Type 0
 HoldsWords Rest pair = Unit {0}
 HoldsWords (HasFirst n) pair = Unit {0}
 HoldsWords (HasA n x) pair = x ≡ pair.0
 HoldsWords (HasB n x y) pair = (x ≡ pair.0) × (y ≡ pair.1)
 
 -- the first number of a try is at least twice the floor, and at most the number
-abbrev pub IsFirstWithin : ℕ → ℕ → Phase → Type 0
+abbrev pub IsFirstWithin : ℕ → ℕ → ReaderPhase → Type 0
 IsFirstWithin number floor phase = IfSome (first_number phase) (λ n. (2 * floor ≤ n) × (n ≤ number))
 
 -- where the first number of a try is even and still the number, the words loaded so far are those of the pair whose number is half of it
-abbrev pub HoldsPair : ℕ → List (ℕ × ℕ) → Phase → Type 0
+abbrev pub HoldsPair : ℕ → List (ℕ × ℕ) → ReaderPhase → Type 0
 HoldsPair number published phase =
     IfSome (first_number phase) (λ n. n % 2 ≡ 0 → number ≡ n → IsSomeAnd (slice_get published (n / 2)) (HoldsWords phase))
 
@@ -67,7 +67,7 @@ both_numbers [] = []
 both_numbers (t ∷ ts) = t.0 ∷ t.1 ∷ both_numbers ts
 
 -- the number in hand, if there is one
-abbrev pub in_hand : Phase → List ℕ
+abbrev pub in_hand : ReaderPhase → List ℕ
 in_hand Rest = []
 in_hand (HasFirst n) = n ∷ []
 in_hand (HasA n x) = n ∷ []
@@ -77,9 +77,13 @@ in_hand (HasB n x y) = n ∷ []
 abbrev pub TriesRise : ℕ → ReaderState → Type 0
 TriesRise number reader = RisesTo number (both_numbers reader.tries ++ in_hand reader.phase)
 
--- what the steps keep: of the words, of each reader's try, of what each reader knows, and of each reader's numbers
+-- what holds of one reader, by the number and what was published: of its try, of what it knows, and of its tries' numbers
+pub record IsSafeReader (number : ℕ) (published : List (ℕ × ℕ)) (reader : ReaderState) : Type 0 where
+  pub reading : IsReading number published reader
+  pub known : KnowsPublished published reader
+  pub tries : TriesRise number reader
+
+-- what the steps keep: of the number and the words, and of each reader
 pub record IsSafe (s : State) : Type 0 where
   pub written : IsWritten s
-  pub reading : All (IsReading s.number s.published) s.readers
-  pub known : All (KnowsPublished s.published) s.readers
-  pub tries : All (TriesRise s.number) s.readers
+  pub readers : All (IsSafeReader s.number s.published) s.readers

@@ -3,46 +3,46 @@ use Rattle.std.specs.Prelude.{ℕ, ◌+◌, ◌/◌, ◌%◌, ◌==◌, Bool, tr
 use Rattle.std.specs.Option.{option_map}
 use Rattle.hh_core.specs.declared.step.Step.{Step}
 use Rattle.hh_core.specs.declared.step.Step.TheVariants as step
-use Rattle.hh_core.specs.declared.step.Writer.{Writer}
-use Rattle.hh_core.specs.declared.step.Writer.TheVariants.{Idle, Begun, WroteA, WroteB}
-use Rattle.hh_core.specs.declared.reader.Phase.{Phase}
-use Rattle.hh_core.specs.declared.reader.Phase.TheVariants.{Rest, HasFirst, HasA, HasB}
+use Rattle.hh_core.specs.declared.step.WriterPhase.{WriterPhase}
+use Rattle.hh_core.specs.declared.step.WriterPhase.TheVariants.{Idle, Begun, WroteA, WroteB}
+use Rattle.hh_core.specs.declared.reader.ReaderPhase.{ReaderPhase}
+use Rattle.hh_core.specs.declared.reader.ReaderPhase.TheVariants.{Rest, HasFirst, HasA, HasB}
 use Rattle.hh_core.specs.State.{State, ReaderState, last_number, phase_of, change_at}
 
 -- a try is good where the number was even and the same at both loads
 abbrev pub is_good : ℕ × ℕ → Bool
 is_good loaded = (loaded.0 % 2 == 0) && (loaded.1 == loaded.0)
 
-abbrev pub is_idle : Writer → Bool
+abbrev pub is_idle : WriterPhase → Bool
 is_idle Idle = true
 is_idle _ = false
 
-abbrev pub has_begun : Writer → Bool
+abbrev pub has_begun : WriterPhase → Bool
 has_begun (Begun x y) = true
 has_begun _ = false
 
-abbrev pub wrote_a : Writer → Bool
+abbrev pub wrote_a : WriterPhase → Bool
 wrote_a (WroteA x y) = true
 wrote_a _ = false
 
-abbrev pub wrote_b : Writer → Bool
+abbrev pub wrote_b : WriterPhase → Bool
 wrote_b (WroteB x y) = true
 wrote_b _ = false
 
 -- there is the reader, and it rests
-abbrev pub rests : Option Phase → Bool
+abbrev pub rests : Option ReaderPhase → Bool
 rests (Some Rest) = true
 rests _ = false
 
-abbrev pub has_first : Option Phase → Bool
+abbrev pub has_first : Option ReaderPhase → Bool
 has_first (Some (HasFirst n)) = true
 has_first _ = false
 
-abbrev pub has_a : Option Phase → Bool
+abbrev pub has_a : Option ReaderPhase → Bool
 has_a (Some (HasA n x)) = true
 has_a _ = false
 
-abbrev pub has_b : Option Phase → Bool
+abbrev pub has_b : Option ReaderPhase → Bool
 has_b (Some (HasB n x y)) = true
 has_b _ = false
 
@@ -59,22 +59,22 @@ allowed (step.Second r) s = has_b (phase_of s.readers r)
 allowed (step.Meet r) s = rests (phase_of s.readers r) && is_idle s.writer
 
 -- the first word is stored
-abbrev pub stores_a : Writer → State → State
+abbrev pub stores_a : WriterPhase → State → State
 stores_a (Begun x y) s = record s { a = x; writer = WroteA x y }
 stores_a _ s = s
 
 -- the second word is stored
-abbrev pub stores_b : Writer → State → State
+abbrev pub stores_b : WriterPhase → State → State
 stores_b (WroteA x y) s = record s { b = y; writer = WroteB x y }
 stores_b _ s = s
 
 -- the number is even again, and the pair is published
-abbrev pub ends : Writer → State → State
+abbrev pub ends : WriterPhase → State → State
 ends (WroteB x y) s = record s { number = s.number + 1; published = s.published ++ (x, y) ∷ []; writer = Idle }
 ends _ s = s
 
 -- a reader's phase becomes this
-abbrev pub to_phase : Phase → ReaderState → ReaderState
+abbrev pub to_phase : ReaderPhase → ReaderState → ReaderState
 to_phase phase reader = record reader { phase = phase }
 
 -- a reader's floor becomes this
@@ -82,12 +82,12 @@ abbrev pub to_floor : ℕ → ReaderState → ReaderState
 to_floor floor reader = record reader { floor = floor }
 
 -- the first word is loaded
-abbrev pub loads_a : ℕ → Phase → Phase
+abbrev pub loads_a : ℕ → ReaderPhase → ReaderPhase
 loads_a a (HasFirst n) = HasA n a
 loads_a a phase = phase
 
 -- the second word is loaded
-abbrev pub loads_b : ℕ → Phase → Phase
+abbrev pub loads_b : ℕ → ReaderPhase → ReaderPhase
 loads_b b (HasA n x) = HasB n x b
 loads_b b phase = phase
 
@@ -100,7 +100,7 @@ abbrev pub learns : ℕ × (ℕ × ℕ) → ReaderState → ReaderState
 learns pair reader = record reader { known = reader.known ++ pair ∷ []; floor = pair.0 }
 
 -- a try ends with the second load of the number; a good one is learnt by half of its number
-abbrev pub ends_try : ℕ → Phase → ReaderState → ReaderState
+abbrev pub ends_try : ℕ → ReaderPhase → ReaderState → ReaderState
 ends_try second (HasB n x y) reader =
     if is_good (n, second) then learns (n / 2, (x, y)) (tries_once (n, second) reader) else tries_once (n, second) reader
 ends_try second phase reader = reader

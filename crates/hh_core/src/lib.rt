@@ -8,8 +8,9 @@ mod readers;
 mod step;
 
 pub use laws::{
-    floors_rise, good_try, published_stays, safe_at_first, safe_run, safe_step, try_of_a_run,
+    floors_rise, good_try, published_stays, resting_readers_agree, safe_at_first, safe_run,
+    safe_step, safe_with_fresh_reader, tries_go_on, try_of_a_run,
 };
 pub use lock::{Core, NotEnabled, Stop};
-pub use reader::{Known, Phase, Try};
-pub use step::{Step, Writer};
+pub use reader::{Known, ReaderPhase, Try};
+pub use step::{Step, WriterPhase};

@@ -1,11 +1,11 @@
 //! The lock with its writer and its readers.
 ghost use Rattle.std.specs.Prelude.{◌≡◌, ◌+◌, ◌<◌, ◌≤◌, ◌^◌, ℕ, length};
 
-use crate::reader::{Known, Phase, Reader, Try};
+use crate::reader::{Known, Reader, ReaderPhase, Try};
 use crate::readers::{
     end_try, fresh_readers, phase_at, reader_at, reserve_all, set_floor, set_phase,
 };
-use crate::step::{Step, Writer};
+use crate::step::{Step, WriterPhase};
 use std::alloc::{AllocError, Global};
 use std::marker::Model;
 
@@ -16,7 +16,7 @@ pub struct Core {
     a: u64,
     b: u64,
     published: Vec<(u64, u64)>,
-    writer: Writer,
+    writer: WriterPhase,
     readers: Vec<Reader>,
     spare: usize,
 }
@@ -69,7 +69,7 @@ impl Core {
             a: first.0,
             b: first.1,
             published,
-            writer: Writer::Idle,
+            writer: WriterPhase::Idle,
             readers,
             spare: 0,
         })
@@ -97,7 +97,7 @@ impl Core {
     }
 
     /// What the writer has done of a publication.
-    pub fn writer(&self) -> Writer
+    pub fn writer(&self) -> WriterPhase
         ensures { result ≡ self.now.state.writer }
     {
         self.writer
@@ -111,7 +111,7 @@ impl Core {
     }
 
     /// A reader's phase, or `None` exactly where there is no such reader.
-    pub fn phase(&self, reader: u32) -> Option<Phase>
+    pub fn phase(&self, reader: u32) -> Option<ReaderPhase>
         ensures { result ≡ phase_of self.now.state.readers reader }
     {
         phase_at(&self.readers, reader)
@@ -121,30 +121,21 @@ impl Core {
     pub fn floor(&self, reader: u32) -> Option<u64>
         ensures { result ≡ option_map (λ r. r.floor) (slice_get self.now.state.readers reader) }
     {
-        match reader_at(&self.readers, reader) {
-            Some(found) => Some(found.floor),
-            None => None,
-        }
+        reader_at(&self.readers, reader).map(|found| found.floor)
     }
 
     /// The pairs that a reader's good tries have read, with their numbers, in order.
     pub fn known(&self, reader: u32) -> Option<&[Known]>
         ensures { option_copied result ≡ option_map (λ r. r.known) (slice_get self.now.state.readers reader) }
     {
-        match reader_at(&self.readers, reader) {
-            Some(found) => Some(found.known.as_slice()),
-            None => None,
-        }
+        reader_at(&self.readers, reader).map(|found| found.known.as_slice())
     }
 
     /// The numbers of a reader's tries, in order.
     pub fn tries(&self, reader: u32) -> Option<&[Try]>
         ensures { option_copied result ≡ option_map (λ r. r.tries) (slice_get self.now.state.readers reader) }
     {
-        match reader_at(&self.readers, reader) {
-            Some(found) => Some(found.tries.as_slice()),
-            None => None,
-        }
+        reader_at(&self.readers, reader).map(|found| found.tries.as_slice())
     }
 
     /// Makes room for so many further steps. Without memory the lock stays as it was.
@@ -177,33 +168,33 @@ impl Core {
         requires { length self.old.state.published < 2 ^ 62 }
         ensures { Takes (step.Begin x y) self.old self.new (is_ok result) }
     {
-        let Writer::Idle = self.writer else {
+        let WriterPhase::Idle = self.writer else {
             return Err(NotEnabled);
         };
         self.number += 1;
-        self.writer = Writer::Begun(x, y);
+        self.writer = WriterPhase::Begun(x, y);
         Ok(())
     }
 
     fn store_a(&mut self) -> Result<(), NotEnabled>
         ensures { Takes step.StoreA self.old self.new (is_ok result) }
     {
-        let Writer::Begun(x, y) = self.writer else {
+        let WriterPhase::Begun(x, y) = self.writer else {
             return Err(NotEnabled);
         };
         self.a = x;
-        self.writer = Writer::WroteA(x, y);
+        self.writer = WriterPhase::WroteA(x, y);
         Ok(())
     }
 
     fn store_b(&mut self) -> Result<(), NotEnabled>
         ensures { Takes step.StoreB self.old self.new (is_ok result) }
     {
-        let Writer::WroteA(x, y) = self.writer else {
+        let WriterPhase::WroteA(x, y) = self.writer else {
             return Err(NotEnabled);
         };
         self.b = y;
-        self.writer = Writer::WroteB(x, y);
+        self.writer = WriterPhase::WroteB(x, y);
         Ok(())
     }
 
@@ -212,12 +203,12 @@ impl Core {
         requires spare { 0 < self.old.spare }
         ensures { Takes step.End self.old self.new (is_ok result) }
     {
-        let Writer::WroteB(x, y) = self.writer else {
+        let WriterPhase::WroteB(x, y) = self.writer else {
             return Err(NotEnabled);
         };
         self.number += 1;
         self.published.push_reserved((x, y));
-        self.writer = Writer::Idle;
+        self.writer = WriterPhase::Idle;
         self.spare -= 1;
         Ok(())
     }
@@ -225,30 +216,38 @@ impl Core {
     fn first(&mut self, reader: u32) -> Result<(), NotEnabled>
         ensures { Takes (step.First reader) self.old self.new (is_ok result) }
     {
-        let Some(Phase::Rest) = phase_at(&self.readers, reader) else {
+        let Some(ReaderPhase::Rest) = phase_at(&self.readers, reader) else {
             return Err(NotEnabled);
         };
-        set_phase(&mut self.readers, reader, Phase::HasFirst(self.number));
+        set_phase(
+            &mut self.readers,
+            reader,
+            ReaderPhase::HasFirst(self.number),
+        );
         Ok(())
     }
 
     fn load_a(&mut self, reader: u32) -> Result<(), NotEnabled>
         ensures { Takes (step.LoadA reader) self.old self.new (is_ok result) }
     {
-        let Some(Phase::HasFirst(first)) = phase_at(&self.readers, reader) else {
+        let Some(ReaderPhase::HasFirst(first)) = phase_at(&self.readers, reader) else {
             return Err(NotEnabled);
         };
-        set_phase(&mut self.readers, reader, Phase::HasA(first, self.a));
+        set_phase(&mut self.readers, reader, ReaderPhase::HasA(first, self.a));
         Ok(())
     }
 
     fn load_b(&mut self, reader: u32) -> Result<(), NotEnabled>
         ensures { Takes (step.LoadB reader) self.old self.new (is_ok result) }
     {
-        let Some(Phase::HasA(first, x)) = phase_at(&self.readers, reader) else {
+        let Some(ReaderPhase::HasA(first, x)) = phase_at(&self.readers, reader) else {
             return Err(NotEnabled);
         };
-        set_phase(&mut self.readers, reader, Phase::HasB(first, x, self.b));
+        set_phase(
+            &mut self.readers,
+            reader,
+            ReaderPhase::HasB(first, x, self.b),
+        );
         Ok(())
     }
 
@@ -256,7 +255,7 @@ impl Core {
         requires { 0 < self.old.spare }
         ensures { Takes (step.Second reader) self.old self.new (is_ok result) }
     {
-        let Some(Phase::HasB(first, x, y)) = phase_at(&self.readers, reader) else {
+        let Some(ReaderPhase::HasB(first, x, y)) = phase_at(&self.readers, reader) else {
             return Err(NotEnabled);
         };
         end_try(&mut self.readers, reader, first, (x, y), self.number);
@@ -267,10 +266,10 @@ impl Core {
     fn meet(&mut self, reader: u32) -> Result<(), NotEnabled>
         ensures { Takes (step.Meet reader) self.old self.new (is_ok result) }
     {
-        let Some(Phase::Rest) = phase_at(&self.readers, reader) else {
+        let Some(ReaderPhase::Rest) = phase_at(&self.readers, reader) else {
             return Err(NotEnabled);
         };
-        let Writer::Idle = self.writer else {
+        let WriterPhase::Idle = self.writer else {
             return Err(NotEnabled);
         };
         let last = self.published.len() as u64 - 1;
@@ -298,12 +297,14 @@ impl Core {
     }
 
     /// Takes the steps one after another, and stops at the first that isn't allowed, with the state
-    /// before it. Without memory for them it takes none.
+    /// before it. Without memory for them it takes none. Each step uses at most one of the spare
+    /// steps that there were before.
     pub fn run(&mut self, steps: &[Step]) -> Result<(), Stop>
         requires { length self.old.state.published + length steps.now < 2 ^ 62 }
         ensures ok { OnOk result ((first_refused steps.now self.old.state ≡ None) × (self.new.state ≡ run steps.now self.old.state)) }
         ensures stop { (place : ℕ) → result ≡ Err (stop.NotEnabled place) → (first_refused steps.now self.old.state ≡ Some place) × (self.new.state ≡ run steps.now self.old.state) }
         ensures memory { result ≡ Err stop.Memory → self.new ≡ self.old }
+        ensures spare { self.old.spare ≤ self.new.spare + length steps.now }
         ensures safe { IsSafe self.new.state }
     {
         if self.grow(steps.len()).is_err() {

@@ -6,7 +6,7 @@ use std::alloc::AllocError;
 
 /// What a reader has loaded of a try.
 #[derive(Clone, Copy, Debug, PartialEq, Eq)]
-pub enum Phase {
+pub enum ReaderPhase {
     /// Nothing: it rests.
     Rest,
     /// The number.
@@ -26,7 +26,7 @@ pub type Known = (u64, (u64, u64));
 /// A reader of the lock.
 #[derive(Debug, Drop)]
 pub struct Reader {
-    pub phase: Phase,
+    pub phase: ReaderPhase,
     pub known: Vec<Known>,
     pub floor: u64,
     pub tries: Vec<Try>,
@@ -34,7 +34,7 @@ pub struct Reader {
 
 impl Reader {
     ghost use Rattle.hh_core.specs.Shown.{reader_state, HasRoom};
-    ghost use Rattle.hh_core.specs.declared.reader.Phase.TheVariants.{HasB};
+    ghost use Rattle.hh_core.specs.declared.reader.ReaderPhase.TheVariants.{HasB};
 
     /// The try that has these in hand ends with the second load of the number.
     pub fn end_try(&mut self, first: u64, words: (u64, u64), second: u64)
@@ -42,7 +42,7 @@ impl Reader {
         ensures ended { reader_state self.new ≡ ends_try second (HasB first words.0 words.1) (reader_state self.old) }
         ensures room { (n : ℕ) → HasRoom (n + 1) self.old → HasRoom n self.new }
     {
-        self.phase = Phase::Rest;
+        self.phase = ReaderPhase::Rest;
         self.tries.push_reserved((first, second));
         if first % 2 == 0 && second == first {
             self.known.push_reserved((first / 2, words));

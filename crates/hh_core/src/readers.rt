@@ -5,9 +5,9 @@ ghost use Rattle.std.specs.List.{All};
 ghost use Rattle.hh_core.specs.State.{phase_of, change_at, fresh_reader};
 ghost use Rattle.hh_core.specs.Step.{to_phase, to_floor, ends_try};
 ghost use Rattle.hh_core.specs.Shown.{reader_state, HasRoom};
-ghost use Rattle.hh_core.specs.declared.reader.Phase.TheVariants.{HasB};
+ghost use Rattle.hh_core.specs.declared.reader.ReaderPhase.TheVariants.{HasB};
 
-use crate::reader::{Phase, Reader};
+use crate::reader::{Reader, ReaderPhase};
 use std::alloc::{AllocError, Global};
 
 /// So many readers that have seen nothing.
@@ -18,7 +18,7 @@ pub fn fresh_readers(alloc: Global, count: u32) -> Result<Vec<Reader>, AllocErro
     let mut readers = Vec::new(alloc);
     for _number in 0..count {
         readers.push(Reader {
-            phase: Phase::Rest,
+            phase: ReaderPhase::Rest,
             known: Vec::new(alloc),
             floor: 0,
             tries: Vec::new(alloc),
@@ -39,7 +39,7 @@ pub fn reader_at(readers: &[Reader], reader: u32) -> Option<&Reader>
 }
 
 /// The phase of a reader, if there is that reader.
-pub fn phase_at(readers: &[Reader], reader: u32) -> Option<Phase>
+pub fn phase_at(readers: &[Reader], reader: u32) -> Option<ReaderPhase>
     ensures phase { result ≡ phase_of (map reader_state readers.now) reader }
     ensures within { IsSome result → reader < length readers.now }
 {
@@ -52,7 +52,7 @@ pub fn phase_at(readers: &[Reader], reader: u32) -> Option<Phase>
 }
 
 /// The reader's phase becomes this.
-pub fn set_phase(readers: &mut Vec<Reader>, reader: u32, phase: Phase)
+pub fn set_phase(readers: &mut Vec<Reader>, reader: u32, phase: ReaderPhase)
     requires { reader < vec_len readers.old }
     ensures changed { map reader_state readers.new.items ≡ change_at (to_phase phase) (map reader_state readers.old.items) reader }
     ensures room { (n : ℕ) → All (HasRoom n) readers.old.items → All (HasRoom n) readers.new.items }

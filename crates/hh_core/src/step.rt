@@ -25,7 +25,7 @@ pub enum Step {
 
 /// What the writer has done of a publication.
 #[derive(Clone, Copy, Debug, PartialEq, Eq)]
-pub enum Writer {
+pub enum WriterPhase {
     /// Nothing: it rests.
     Idle,
     /// The number is odd; the pair is to be stored.

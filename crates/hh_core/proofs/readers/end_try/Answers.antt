@@ -1,5 +1,5 @@
 use Rattle.std.proofs.Common.{◌+◌, ◌<◌, length, arith}
-use Rattle.hh_core.specs.declared.reader.Phase.TheVariants.{HasB}
+use Rattle.hh_core.specs.declared.reader.ReaderPhase.TheVariants.{HasB}
 use Rattle.std.proofs.lemmas.List.Elements.{All-set, All-weaker}
 use Rattle.hh_core.specs.Step.{ends_try}
 use Rattle.hh_core.specs.Shown.{HasRoom}

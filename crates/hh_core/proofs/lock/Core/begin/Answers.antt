@@ -1,6 +1,6 @@
 use Rattle.std.proofs.Common.{◌+◌, refl, ap, arith}
 use Rattle.hh_core.specs.declared.step.Step.TheVariants as step
-use Rattle.hh_core.specs.declared.step.Writer.TheVariants.{Begun}
+use Rattle.hh_core.specs.declared.step.WriterPhase.TheVariants.{Begun}
 use Rattle.hh_core.specs.Step.{is_idle}
 use Rattle.hh_core.specs.declared.lock.Core.TheInside.{Inside}
 use Rattle.hh_core.proofs.Taken.{Moves, takes, safe_next}

@@ -1,7 +1,7 @@
 use Rattle.std.proofs.Common.{ℕ, ◌+◌, ◌-◌, ◌<◌, List, sym, ap, ◌∙◌, arith}
 use Rattle.hh_core.specs.declared.step.Step.TheVariants as step
-use Rattle.hh_core.specs.declared.step.Writer.{Writer}
-use Rattle.hh_core.specs.declared.step.Writer.TheVariants.{Idle}
+use Rattle.hh_core.specs.declared.step.WriterPhase.{WriterPhase}
+use Rattle.hh_core.specs.declared.step.WriterPhase.TheVariants.{Idle}
 use Rattle.std.proofs.lemmas.List.Elements.{All-weaker}
 use Rattle.hh_core.specs.State.{State}
 use Rattle.hh_core.specs.Step.{wrote_b, ends}
@@ -17,7 +17,7 @@ invariant_of-self c =
     let next : Inside = record c.self.inside { number = c.self.inside.number + 1; published = c.push_reserved.new.self; writer = Idle; spare = c.self.inside.spare - 1 } in
     let s : State = state_in c.self.inside in
     let pushed = ap (λ (p : List (ℕ × ℕ)). (let made : State = record { number = s.number + 1; a = s.a; b = s.b; published = p; writer = Idle; readers = s.readers } in made)) c.push_reserved.ensures.items in
-    let m : Moves step.End c.self.inside next = record { enabled = ap wrote_b c.in-WroteB.is; state = pushed ∙ ap (λ (w : Writer). ends w s) (sym c.in-WroteB.is) } in
+    let m : Moves step.End c.self.inside next = record { enabled = ap wrote_b c.in-WroteB.is; state = pushed ∙ ap (λ (w : WriterPhase). ends w s) (sym c.in-WroteB.is) } in
     let some : 0 < c.self.inside.spare = omega (arith, c.requires.spare, ap (λ (o : Shown). o.spare) c.self.view_is) in
     record {
       safe = safe_next _ c.self.inside next m c.self.invariant;
@@ -30,4 +30,4 @@ returns c =
     let next : Inside = record c.self.inside { number = c.self.inside.number + 1; published = c.push_reserved.new.self; writer = Idle; spare = c.self.inside.spare - 1 } in
     let s : State = state_in c.self.inside in
     let pushed = ap (λ (p : List (ℕ × ℕ)). (let made : State = record { number = s.number + 1; a = s.a; b = s.b; published = p; writer = Idle; readers = s.readers } in made)) c.push_reserved.ensures.items in
-    takes step.End c.self.inside next c.args.self.now c.self.view_is c.self.invariant (record { enabled = ap wrote_b c.in-WroteB.is; state = pushed ∙ ap (λ (w : Writer). ends w s) (sym c.in-WroteB.is) }) (omega arith) (omega arith)
+    takes step.End c.self.inside next c.args.self.now c.self.view_is c.self.invariant (record { enabled = ap wrote_b c.in-WroteB.is; state = pushed ∙ ap (λ (w : WriterPhase). ends w s) (sym c.in-WroteB.is) }) (omega arith) (omega arith)

@@ -1,6 +1,6 @@
 use Rattle.std.proofs.Common.{List, ap, ◌∙◌, arith}
 use Rattle.hh_core.specs.declared.step.Step.TheVariants as step
-use Rattle.hh_core.specs.declared.reader.Phase.TheVariants.{HasFirst}
+use Rattle.hh_core.specs.declared.reader.ReaderPhase.TheVariants.{HasFirst}
 use Rattle.hh_core.specs.State.{State, ReaderState}
 use Rattle.hh_core.specs.Step.{has_first}
 use Rattle.hh_core.specs.declared.lock.Core.TheInside.{Inside}

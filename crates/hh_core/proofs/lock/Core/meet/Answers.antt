@@ -1,6 +1,6 @@
 use Rattle.std.proofs.Common.{◌≡◌, ℕ, ◌-◌, List, ap, ◌∙◌, arith}
 use Rattle.hh_core.specs.declared.step.Step.TheVariants as step
-use Rattle.hh_core.specs.declared.reader.Phase.TheVariants.{Rest}
+use Rattle.hh_core.specs.declared.reader.ReaderPhase.TheVariants.{Rest}
 use Rattle.hh_core.specs.State.{State, ReaderState, last_number, phase_of, change_at}
 use Rattle.hh_core.specs.Step.{is_idle, rests, to_floor}
 use Rattle.hh_core.specs.declared.lock.Core.TheInside.{Inside}

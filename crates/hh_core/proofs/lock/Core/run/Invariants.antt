@@ -8,5 +8,6 @@ invariant-loop-place l = record {
   taken : RunsTo l.steps l.fn.self.state l.place l.self.state;
   published : length l.self.state.published ≤ length l.fn.self.state.published + l.place;
   spare : length l.steps ≤ l.self.spare + l.place;
+  kept : l.fn.self.spare ≤ l.self.spare + l.place;
   safe : IsSafe l.self.state;
 }
