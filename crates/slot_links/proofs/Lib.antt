@@ -7,3 +7,4 @@ pub mod Looks
 pub mod Moved
 pub mod Callers
 pub mod Rows
+pub mod Standing

@@ -40,6 +40,11 @@ put_back lists list node = slice_set lists list (list_at lists list ++ node ∷ 
 abbrev pub take_out : List (List ℕ) → ℕ → List (List ℕ)
 take_out lists node = map (without node) lists
 
+-- the node is one of the nodes, and this is the list that has it, or none
+pub record StandsIn (linked : Linked) (list : Option ℕ) (node : ℕ) : Type 0 where
+  pub within : node < linked.nodes
+  pub held : holder linked.lists node ≡ list
+
 -- Each node of a list is one of the nodes, stands in that list alone, and stands there once.
 pub record StandOnce (linked : Linked) : Type 0 where
   pub held : (list node : ℕ) → has node (list_at linked.lists list) ≡ true → (node < linked.nodes) × (holder linked.lists node ≡ Some list)

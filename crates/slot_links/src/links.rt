@@ -27,12 +27,14 @@ impl Model for Links {
 }
 
 impl Links {
-    ghost use Rattle.std.specs.Prelude.{[], None, max, is_some, slice_get, replicate, IfOk, OnOk, OnErr};
-    ghost use Rattle.slot_links.specs.Lists.{list_at, holder, next_of, put_back, take_out, StandOnce};
+    ghost use Rattle.std.specs.Prelude.{[], None, Some, max, is_some, slice_get, replicate, IfOk, IfSome, OnOk, OnErr};
+    ghost use Rattle.slot_links.specs.Lists.{list_at, holder, next_of, put_back, take_out, StandsIn, StandOnce};
 
-    /// So many empty lists, and no nodes.
+    /// So many empty lists, and no nodes. From here on each node stands in at most one list, and there
+    /// once.
     pub fn new(alloc: Global, lists: u32) -> Result<Links, AllocError>
-        ensures { IfOk result (λ links. links ≡ record { lists = replicate lists []; nodes = 0 }) }
+        ensures made { IfOk result (λ links. links ≡ record { lists = replicate lists []; nodes = 0 }) }
+        ensures once { IfOk result (λ links. StandOnce links) }
     {
         let mut places = Vec::new(alloc);
         extend(&mut places, lists as usize)?;
@@ -98,19 +100,22 @@ impl Links {
         true
     }
 
-    /// The node at the front of a list: `None` exactly where the list is empty. Takes no memory.
+    /// The node at the front of a list, which is the list that has it: `None` exactly where the list is
+    /// empty. Takes no memory.
     pub fn first(&self, list: u32) -> Option<u32>
         requires { list < length self.now.lists }
-        ensures { result ≡ slice_get (list_at self.now.lists list) 0 }
+        ensures front { result ≡ slice_get (list_at self.now.lists list) 0 }
+        ensures stands { IfSome result (StandsIn self.now (Some list)) }
     {
         node_of(self.lists, self.places[list as usize].next)
     }
 
-    /// The node right behind this one in its list: `None` exactly where it stands last or is in no
-    /// list. Takes no memory.
+    /// The node right behind this one in its list, which has both: `None` exactly where this one stands
+    /// last or is in no list. Takes no memory.
     pub fn next(&self, node: u32) -> Option<u32>
         requires { node < self.now.nodes }
-        ensures { result ≡ next_of self.now.lists node }
+        ensures behind { result ≡ next_of self.now.lists node }
+        ensures stands { IfSome result (StandsIn self.now (holder self.now.lists node)) }
     {
         let place = self.places[self.lists as usize + node as usize];
         if place.list.is_none() {

@@ -3,7 +3,7 @@ use Rattle.std.proofs.Common.{◌≡◌, List, ℕ, [], replicate, subst, ap}
 use Rattle.slot_links.specs.declared.places.Place.{Place}
 use Rattle.slot_links.specs.Lists.{Linked}
 use Rattle.slot_links.specs.Places.{Extends, Holds}
-use Rattle.slot_links.proofs.Shows.{lists_shown, holds_shown}
+use Rattle.slot_links.proofs.Shows.{lists_shown, holds_shown, stand_once}
 use Rattle.slot_links.proofs.Changes.{holds_first}
 use Rattle.slot_links.proofs.links.Links.new.Goals as goal
 
@@ -16,5 +16,8 @@ invariant_of-result c = holds_shown c.args.lists 0 c.extend.new.places.items (re
 abbrev with_none : List (List ℕ) → Linked
 with_none lists = record { lists = lists; nodes = 0 }
 
-pub returns : goal.returns
-returns c = ap with_none (lists_shown c.args.lists 0 c.extend.new.places.items (replicate c.args.lists []) (first_places c.args.lists c.new-places.result.items c.extend.new.places.items c.new-places.ensures.items c.in_ok-extend.ensures.ok))
+pub returns-clause-made : goal.returns-clause-made
+returns-clause-made c = ap with_none (lists_shown c.args.lists 0 c.extend.new.places.items (replicate c.args.lists []) (first_places c.args.lists c.new-places.result.items c.extend.new.places.items c.new-places.ensures.items c.in_ok-extend.ensures.ok))
+
+pub returns-clause-once : goal.returns-clause-once
+returns-clause-once c = stand_once c.args.lists 0 c.extend.new.places.items _ (holds_shown c.args.lists 0 c.extend.new.places.items (replicate c.args.lists []) (first_places c.args.lists c.new-places.result.items c.extend.new.places.items c.new-places.ensures.items c.in_ok-extend.ensures.ok))
