@@ -8,3 +8,4 @@ pub mod Whole
 pub mod Loop
 pub mod Written
 pub mod Unique
+pub mod Bounds

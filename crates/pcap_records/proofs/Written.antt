@@ -13,9 +13,9 @@ use Rattle.pcap_records.specs.declared.form.Order.TheVariants.{Big}
 use Rattle.pcap_records.specs.declared.form.Fraction.TheVariants.{Microseconds}
 use Rattle.pcap_records.specs.declared.form.Form.{Form}
 use Rattle.pcap_records.specs.Form.{field, stamp_of, captured_len, IsHeader}
-use Rattle.pcap_records.specs.Records.{Laid, bytes_of, IsLaid, stamps, never_falling, moments, placed}
+use Rattle.pcap_records.specs.Records.{Laid, bytes_of, IsLaid, stamps, never_falling, moments, placed, frames_of}
 use Rattle.pcap_records.specs.Capture.{greatest_moment, IsCapture}
-use Rattle.pcap_records.specs.Writing.{NeverFalls, BeginsAtZero, IsFrame, AreFrames, moments_of, written_header, written_record_header, written_record, written, frames_of, IsCaptureOf}
+use Rattle.pcap_records.specs.Writing.{NeverFalls, BeginsAtZero, IsFrame, AreFrames, moments_of, written_header, written_record_header, written_record, written, IsCaptureOf}
 
 abbrev written_form : Form
 written_form = record { order = Big; unit = Microseconds }

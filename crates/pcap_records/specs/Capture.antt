@@ -1,13 +1,14 @@
 -- Which files are captures, with which records, and which refusal each other file has (draft-ietf-opsawg-pcap; the limits and the order of the checks are this project's own).
-use Rattle.std.specs.Prelude.{◌≡◌, ◌≢◌, ◌<◌, ◌≤◌, ◌+◌, ℕ, List, [], ◌∷◌, ◌++◌, length, Result, Err}
-use Rattle.std.specs.List.{flat_map, AllByRecursion}
+use Rattle.std.specs.Prelude.{◌≡◌, ◌≢◌, ◌<◌, ◌≤◌, ◌+◌, ℕ, List, [], ◌∷◌, ◌++◌, length, map, Result, Err}
+use Rattle.std.specs.List.{flat_map, All, AllByRecursion}
+use Rattle.std.specs.List.Sorted.{IsNonDecreasing}
 use Rattle.pcap_records.specs.declared.capture.Rec.{Rec}
 use Rattle.pcap_records.specs.declared.fail.CaptureFail.{CaptureFail}
 use Rattle.pcap_records.specs.declared.fail.CaptureFail.TheVariants.{ShortHeader, BadMagic, BadVersion, BadLink, ShortRecord, HugeRecord, TooMany, SpanTooLong, Memory}
 use Rattle.pcap_records.specs.declared.form.Form.{Form}
 use Rattle.pcap_records.specs.declared.form.Order.TheVariants.{Big}
 use Rattle.pcap_records.specs.Form.{field, HasMagic, HasVersion, HasLink, IsHeader, captured_len, stamp_of}
-use Rattle.pcap_records.specs.Records.{Laid, bytes_of, IsLaid, stamps, moments, placed}
+use Rattle.pcap_records.specs.Records.{most_captured, Laid, bytes_of, IsLaid, stamps, moments, placed}
 
 -- the greatest moment of a record: 30 days in milliseconds
 abbrev pub greatest_moment : ℕ
@@ -33,10 +34,21 @@ pub record IsCapture (bytes : List ℕ) (records : List Rec) : Type 0 where
   pub begins : Begins bytes form laid []
   pub places : records ≡ placed 24 (moments (stamps form laid)) laid
 
+-- what the records of every capture keep: their captured bytes lie within a file of this size, their moments never fall and are at most the greatest, and there aren't too many
+pub record AreBounded (size : ℕ) (records : List Rec) : Type 0 where
+  pub within : All (λ r. r.start + r.len ≤ size) records
+  pub order : IsNonDecreasing (map (λ r. r.at) records)
+  pub span : All (λ r. r.at ≤ greatest_moment) records
+  pub few : length records ≤ most_records
+
+-- every capture's records keep it
+abbrev pub CapturesAreBounded : Type 0
+CapturesAreBounded = (bytes : List ℕ) (records : List Rec) → IsCapture bytes records → AreBounded (length bytes) records
+
 -- the bytes end within the record that they begin: within its header, or within the captured bytes of a length that is allowed
 pub data IsCut (form : Form) (rest : List ℕ) : Type 0 where
   in_header : length rest < 16 → IsCut form rest
-  in_captured : 16 ≤ length rest → captured_len form rest ≤ 262144 → length rest < 16 + captured_len form rest → IsCut form rest
+  in_captured : 16 ≤ length rest → captured_len form rest ≤ most_captured → length rest < 16 + captured_len form rest → IsCut form rest
 
 -- the moment of a record with this stamp, behind records with these
 abbrev pub IsMomentBehind : List ℕ → ℕ → ℕ → Type 0
@@ -46,9 +58,9 @@ IsMomentBehind before stamp m = moments (before ++ stamp ∷ []) ≡ moments bef
 abbrev pub FailsBehind : Form → List Laid → List ℕ → ℕ → CaptureFail → Type 0
 FailsBehind form laid rest place (TooMany at) = (at ≡ place) × (length laid ≡ most_records)
 FailsBehind form laid rest place (ShortRecord at) = (at ≡ place) × (length laid < most_records) × IsCut form rest
-FailsBehind form laid rest place (HugeRecord at len) = (at ≡ place) × (length laid < most_records) × (16 ≤ length rest) × (len ≡ captured_len form rest) × (262144 < len)
+FailsBehind form laid rest place (HugeRecord at len) = (at ≡ place) × (length laid < most_records) × (16 ≤ length rest) × (len ≡ captured_len form rest) × (most_captured < len)
 FailsBehind form laid rest place (SpanTooLong at) =
-    (at ≡ place) × (length laid < most_records) × (16 ≤ length rest) × (captured_len form rest ≤ 262144) × (16 + captured_len form rest ≤ length rest)
+    (at ≡ place) × (length laid < most_records) × (16 ≤ length rest) × (captured_len form rest ≤ most_captured) × (16 + captured_len form rest ≤ length rest)
     × (m : ℕ) × IsMomentBehind (stamps form laid) (stamp_of form rest) m × (greatest_moment < m)
 FailsBehind form laid rest place _ = ⊥
 

@@ -9,6 +9,7 @@ use Rattle.pcap_records.specs.declared.form.Fraction.{Fraction}
 use Rattle.pcap_records.specs.declared.form.Fraction.TheVariants.{Microseconds, Nanoseconds}
 use Rattle.pcap_records.specs.declared.form.Form.{Form}
 use Rattle.pcap_records.specs.Form.{field, captured_len, stamp_of}
+use Rattle.pcap_records.specs.Records.{most_captured}
 use Rattle.pcap_records.specs.Capture.{greatest_moment, most_records}
 
 infixl 10 ◌>>=◌
@@ -51,7 +52,7 @@ header_of bytes =
 unfoldable pub len_at : Form → ℕ → List ℕ → Result ℕ CaptureFail
 len_at form place rest =
     if nat_lt (length rest) 16 then Err (ShortRecord place)
-    else if nat_lt 262144 (captured_len form rest) then Err (HugeRecord place (captured_len form rest))
+    else if nat_lt most_captured (captured_len form rest) then Err (HugeRecord place (captured_len form rest))
     else if nat_lt (length rest - 16) (captured_len form rest) then Err (ShortRecord place)
     else Ok (captured_len form rest)
 

@@ -1,8 +1,13 @@
 -- The records of a capture file (draft-ietf-opsawg-pcap, section 5), laid end to end behind its header, and their moments.
-use Rattle.std.specs.Prelude.{◌≡◌, ◌≤◌, ℕ, ◌+◌, ◌-◌, max, List, [], ◌∷◌, ◌++◌, length, map}
+use Rattle.std.specs.Prelude.{◌≡◌, ◌≤◌, ℕ, ◌+◌, ◌-◌, max, List, [], ◌∷◌, ◌++◌, length, map, take, drop}
 use Rattle.pcap_records.specs.declared.capture.Rec.{Rec}
+use Rattle.pcap_records.specs.declared.capture.Frame.{Frame}
 use Rattle.pcap_records.specs.declared.form.Form.{Form}
 use Rattle.pcap_records.specs.Form.{captured_len, stamp_of}
+
+-- the most captured bytes of a record (this project's own)
+abbrev pub most_captured : ℕ
+most_captured = 262144
 
 -- a record as it lies in the file: its header, and the captured bytes
 pub record Laid : Type 0 where
@@ -12,11 +17,11 @@ pub record Laid : Type 0 where
 abbrev pub bytes_of : Laid → List ℕ
 bytes_of r = r.header ++ r.captured
 
--- a header of 16 bytes, whose captured length is the number of the captured bytes, at most 262,144 of them (the limit is this project's own); the original length is left unread
+-- a header of 16 bytes, whose captured length is the number of the captured bytes, within their limit; the original length is left unread
 pub record IsLaid (form : Form) (r : Laid) : Type 0 where
   pub size : length r.header ≡ 16
   pub counted : captured_len form r.header ≡ length r.captured
-  pub limit : length r.captured ≤ 262144
+  pub limit : length r.captured ≤ most_captured
 
 -- each stamp in its file's order
 abbrev pub stamps : Form → List Laid → List ℕ
@@ -37,3 +42,7 @@ abbrev pub placed : ℕ → List ℕ → List Laid → List Rec
 placed place [] laid = []
 placed place (m ∷ ms) [] = []
 placed place (m ∷ ms) (r ∷ rs) = record { at = m; start = place + 16; len = length r.captured } ∷ placed (place + 16 + length r.captured) ms rs
+
+-- what records of a file hold: the moment of each, and its captured bytes
+abbrev pub frames_of : List ℕ → List Rec → List Frame
+frames_of bytes records = map (λ r. record { at = r.at; bytes = take r.len (drop r.start bytes) }) records

@@ -1,14 +1,15 @@
 -- Frames as a big-endian file of microseconds, whose first record is stamped 0 (draft-ietf-opsawg-pcap, sections 4 and 5).
-use Rattle.std.specs.Prelude.{◌≡◌, ◌≤◌, ◌*◌, ◌/◌, ◌%◌, ℕ, List, [], ◌∷◌, ◌++◌, length, map, take, drop}
+use Rattle.std.specs.Prelude.{◌≡◌, ◌≤◌, ◌*◌, ◌/◌, ◌%◌, ℕ, List, [], ◌∷◌, ◌++◌, length, map}
 use Rattle.std.specs.List.{flat_map, AllByRecursion}
 use Rattle.byteorder.specs.Endian.{big_bytes}
 use Rattle.pcap_records.specs.declared.capture.Rec.{Rec}
 use Rattle.pcap_records.specs.declared.capture.Frame.{Frame}
+use Rattle.pcap_records.specs.Records.{most_captured, frames_of}
 use Rattle.pcap_records.specs.Capture.{greatest_moment, most_records, IsCapture}
 
 -- a frame that fits in a record: not too many bytes, and not too late
 pub record IsFrame (f : Frame) : Type 0 where
-  pub size : length f.bytes ≤ 262144
+  pub size : length f.bytes ≤ most_captured
   pub span : f.at ≤ greatest_moment
 
 abbrev pub moments_of : List Frame → List ℕ
@@ -31,9 +32,9 @@ pub record AreFrames (frames : List Frame) : Type 0 where
   pub first : BeginsAtZero (moments_of frames)
   pub order : NeverFalls 0 (moments_of frames)
 
--- the magic number of microseconds, version 2.4, two unread fields, the snapshot length, the link type of Ethernet
+-- the magic number of microseconds, version 2.4, two unread fields, the snapshot length, which is the most captured bytes of a record, the link type of Ethernet
 abbrev pub written_header : List ℕ
-written_header = big_bytes 4 0xa1b2c3d4 ++ big_bytes 2 2 ++ big_bytes 2 4 ++ big_bytes 4 0 ++ big_bytes 4 0 ++ big_bytes 4 262144 ++ big_bytes 4 1
+written_header = big_bytes 4 0xa1b2c3d4 ++ big_bytes 2 2 ++ big_bytes 2 4 ++ big_bytes 4 0 ++ big_bytes 4 0 ++ big_bytes 4 most_captured ++ big_bytes 4 1
 
 -- seconds, microseconds, the captured length and the original length, which are the same
 abbrev pub written_record_header : Frame → List ℕ
@@ -45,10 +46,6 @@ written_record f = written_record_header f ++ f.bytes
 
 unfoldable pub written : List Frame → List ℕ
 written frames = written_header ++ flat_map written_record frames
-
--- what the records of a file hold: the moment of each, and its captured bytes
-abbrev pub frames_of : List ℕ → List Rec → List Frame
-frames_of bytes records = map (λ r. record { at = r.at; bytes = take r.len (drop r.start bytes) }) records
 
 -- the file is a capture whose records hold these frames
 abbrev pub IsCaptureOf : List ℕ → List Frame → Type 0

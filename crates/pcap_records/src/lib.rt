@@ -6,10 +6,12 @@ mod clock;
 mod fail;
 mod form;
 mod header;
+mod laws;
 mod reading;
 mod writing;
 
 pub use capture::{Capture, Frame, Rec};
 pub use fail::CaptureFail;
+pub use laws::captures_are_bounded;
 pub use reading::read;
 pub use writing::write;

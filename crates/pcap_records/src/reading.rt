@@ -2,7 +2,7 @@
 ghost use Rattle.std.specs.Prelude.{◌≡◌, ◌≢◌, ◌+◌, ◌^◌, ◌≤◌, ◌<◌, List, length, drop, Ok, Err, IfOk, IfErr};
 ghost use Rattle.pcap_records.specs.declared.capture.Rec.{Rec};
 ghost use Rattle.pcap_records.specs.declared.fail.CaptureFail.{CaptureFail};
-ghost use Rattle.pcap_records.specs.Capture.{IsCapture, IsRefusal, Answers};
+ghost use Rattle.pcap_records.specs.Capture.{IsCapture, AreBounded, IsRefusal, Answers};
 ghost use Rattle.pcap_records.specs.Reading.{len_at, record_at, records_from, capture_of, start_clock};
 
 use crate::capture::{Capture, Rec};
@@ -110,6 +110,8 @@ fn read_whole(alloc: Global, bytes: &[u8]) -> Result<Capture, CaptureFail>
 pub fn read(alloc: Global, bytes: &[u8]) -> Result<Capture, CaptureFail>
     // What is read is a capture with these records.
     ensures found { IfOk result (λ records. IsCapture bytes.now records) }
+    // Its records lie within the file, in the order of their moments.
+    ensures bounded { IfOk result (λ records. AreBounded (length bytes.now) records) }
     // A capture is read, with its records, unless memory runs out.
     ensures only { (records : List Rec) → IsCapture bytes.now records → Answers result (Ok records) }
     // A refusal other than want of memory is the file's.
