@@ -1,0 +1,5 @@
+pub mod Ticks
+pub mod Counted
+pub mod Orders
+pub mod Growing
+pub mod Calls

@@ -1,0 +1,6 @@
+mod Lists
+mod Counted
+mod Steps
+mod Seats
+mod Tokens
+mod Walks
