@@ -1,5 +1,5 @@
-use pcap_records::{Frame, Rec, read, write};
 use nb_base::{Items, Moment};
+use pcap_records::{Frame, Rec, read, write};
 use std::alloc::Global;
 use std::test::Fail;
 

@@ -1,5 +1,5 @@
-use nd_codec::{Nd, NdFail, checksum, read_nd, write_advert, write_solicit};
 use nb_base::Mac;
+use nd_codec::{Nd, NdFail, checksum, read_nd, write_advert, write_solicit};
 
 const HOST: u128 = 0xfe80_0000_0000_0000_0000_0000_0000_0002;
 
@@ -135,26 +135,33 @@ fn each_check_by_itself(rt: HostRuntime) {
     for (place, byte, fail) in cases {
         assert_eq!(rt; read_changed(SAME, (place, byte)), Err(fail), "at {place}");
     }
-    assert_eq!(rt; read_solicit(0, ALL), Err(NdFail::Unspecified));
-    assert_eq!(rt; read_solicit(0, NODE), Err(NdFail::Unspecified));
+}
+
+#[test]
+fn sources_and_groups(rt: HostRuntime) {
+    for group in [ALL, NODE] {
+        assert_eq!(rt; read_solicit(0, group), Err(NdFail::Unspecified));
+    }
     assert_eq!(rt; read_advert(true), Err(NdFail::SolicitedToGroup));
     assert_eq!(rt; read_advert(false).is_ok(), true);
 }
 
 #[test]
 fn the_first_of_two(rt: HostRuntime) {
-    assert_eq!(rt; read_changed((0, 0x50), (6, 59)), Err(NdFail::Short));
-    assert_eq!(rt; read_changed((6, 59), (7, 64)), Err(NdFail::NotIcmp));
-    assert_eq!(rt; read_changed((7, 64), (41, 1)), Err(NdFail::HopLimit));
-    assert_eq!(rt; read_changed((48, 0xff), (65, 0)), Err(NdFail::Target));
-    assert_eq!(rt;
-        read_nd(&changed(SOLICIT, [SAME, (41, 1)])),
-        Err(NdFail::Code)
-    );
-    assert_eq!(rt;
-        read_nd(&changed(SOLICIT, [SAME, (48, 0xff)])),
-        Err(NdFail::Checksum)
-    );
+    let cases = [
+        ((0, 0x50), (6, 59), NdFail::Short),
+        ((6, 59), (7, 64), NdFail::NotIcmp),
+        ((7, 64), (41, 1), NdFail::HopLimit),
+        ((48, 0xff), (65, 0), NdFail::Target),
+    ];
+    for (first, second, fail) in cases {
+        assert_eq!(rt; read_changed(first, second), Err(fail), "at {}", first.0);
+    }
+    // Beside a wrong checksum.
+    for (place, byte, fail) in [(41, 1, NdFail::Code), (48, 0xff, NdFail::Checksum)] {
+        let packet = changed(SOLICIT, [SAME, (place, byte)]);
+        assert_eq!(rt; read_nd(&packet), Err(fail), "at {place}");
+    }
     // From the unspecified address, with an option of length 0.
     let unspecified = changed(SOLICIT, [(8, 0), (9, 0)]);
     assert_eq!(rt;

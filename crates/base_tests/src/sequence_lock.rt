@@ -172,21 +172,49 @@ fn only<T: Copy>(items: Option<&[T]>) -> Option<T> {
     }
 }
 
+/// What a reader has tried and knows: how many tries, the last one, and the one pair.
+#[derive(Clone, Copy, Debug, PartialEq, Eq)]
+struct Seen {
+    tries: usize,
+    last: Option<Try>,
+    known: Option<Known>,
+}
+
+fn seen(core: &Core, reader: u32) -> Option<Seen> {
+    let tries = core.tries(reader)?;
+    Some(Seen {
+        tries: tries.len(),
+        last: tries.last().copied(),
+        known: only(core.known(reader)),
+    })
+}
+
+/// What one try has left of a reader.
+fn once(last: Try, known: Option<Known>) -> Option<Seen> {
+    Some(Seen {
+        tries: 1,
+        last: Some(last),
+        known,
+    })
+}
+
+/// The number, the words, and how many pairs were published.
+fn shown(core: &Core) -> (u64, (u64, u64), usize) {
+    (core.number(), core.words(), core.published().len())
+}
+
 #[test]
 fn two_writes_and_two_reads_in_many_orders(rt: HostRuntime) -> Result<(), Fail> {
     for (number, case) in INTERLEAVINGS.iter().enumerate() {
         let steps = steps_of(rt.alloc(), &case.order)?;
-        assert_eq!(rt; steps.len(), 16);
         let mut core = Core::new(rt.alloc(), (5, 6), 2)?;
-        assert!(rt; core.published().len() < 1000);
+        assert!(rt; steps.len() == 16 && core.published().len() < 1000);
         assert!(rt; core.run(&steps).is_ok(), "order {number}");
-        assert_eq!(rt; core.number(), 4);
-        assert_eq!(rt; core.words(), (9, 10));
-        assert_eq!(rt; core.published().len(), 3);
-        assert_eq!(rt; only(core.tries(0)), Some(case.tries[0]));
-        assert_eq!(rt; only(core.tries(1)), Some(case.tries[1]));
-        assert_eq!(rt; only(core.known(0)), case.known[0], "order {number}");
-        assert_eq!(rt; only(core.known(1)), case.known[1], "order {number}");
+        assert_eq!(rt; shown(&core), (4, (9, 10), 3));
+        let [first, second] = case.tries;
+        let [known, other] = case.known;
+        assert_eq!(rt; seen(&core, 0), once(first, known), "order {number}");
+        assert_eq!(rt; seen(&core, 1), once(second, other), "order {number}");
     }
     Ok(())
 }
@@ -205,23 +233,23 @@ fn reader_across_a_write(rt: HostRuntime) -> Result<(), Fail> {
         Step::Second(0),
     ];
     assert_eq!(rt; core.run(&across), Ok(()));
-    assert_eq!(rt; core.tries(0).ok_or("a reader")?, [(1, 2)].as_slice());
-    assert_eq!(rt; core.known(0).ok_or("a reader")?.len(), 0);
-    assert_eq!(rt; core.floor(0), Some(0));
+    assert_eq!(rt;
+        (seen(&core, 0), core.floor(0)),
+        (once((1, 2), None), Some(0))
+    );
     let again = [
         Step::First(0),
         Step::LoadA(0),
         Step::LoadB(0),
         Step::Second(0),
     ];
-    assert_eq!(rt; core.published().len(), 2);
-    assert_eq!(rt; core.run(&again), Ok(()));
-    assert_eq!(rt;
-        core.tries(0).ok_or("a reader")?,
-        [(1, 2), (2, 2)].as_slice()
-    );
-    assert_eq!(rt; core.known(0).ok_or("a reader")?, [(1, (7, 8))].as_slice());
-    assert_eq!(rt; core.floor(0), Some(1));
+    assert!(rt; core.published().len() == 2 && core.run(&again).is_ok());
+    let twice = Seen {
+        tries: 2,
+        last: Some((2, 2)),
+        known: Some((1, (7, 8))),
+    };
+    assert_eq!(rt; (seen(&core, 0), core.floor(0)), (Some(twice), Some(1)));
     Ok(())
 }
 
@@ -256,8 +284,6 @@ fn reader_between_the_writers_steps(rt: HostRuntime) -> Result<(), Fail> {
 #[test]
 fn a_meeting_raises_the_floor(rt: HostRuntime) -> Result<(), Fail> {
     let mut core = Core::new(rt.alloc(), (5, 6), 1)?;
-    core.reserve(7)?;
-    assert!(rt; core.spare() >= 7);
     let steps = [
         BEGIN_7_8,
         STORE_A,
@@ -267,13 +293,18 @@ fn a_meeting_raises_the_floor(rt: HostRuntime) -> Result<(), Fail> {
         Step::Meet(1),
     ];
     assert_eq!(rt; core.run(&steps), Err(Stop::NotEnabled(5)));
-    assert_eq!(rt; core.floor(0), Some(1));
-    assert_eq!(rt; core.floor(1), None);
+    assert_eq!(rt; (core.floor(0), core.floor(1)), (Some(1), None));
     assert_eq!(rt; core.published().len(), 2);
-    assert!(rt; core.spare() > 0);
+    Ok(())
+}
+
+#[test]
+fn no_meeting_while_the_writer_writes(rt: HostRuntime) -> Result<(), Fail> {
+    let mut core = Core::new(rt.alloc(), (5, 6), 1)?;
+    core.reserve(7)?;
+    assert!(rt; core.spare() >= 7 && core.published().len() == 1);
     assert!(rt; core.apply(BEGIN_9_10).is_ok());
-    assert_eq!(rt; core.published().len(), 2);
-    assert!(rt; core.spare() > 0);
+    assert!(rt; core.spare() > 0 && core.published().len() == 1);
     assert!(rt; core.apply(Step::Meet(0)).is_err());
     Ok(())
 }

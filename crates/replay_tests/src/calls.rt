@@ -1,6 +1,6 @@
-use neigh_replay::run;
 use nb_base::{Bytes, Items};
 use nb_io::{MemoryFile, MemoryInputs, MemorySink, OpenGate};
+use neigh_replay::run;
 use std::alloc::{AllocError, Global};
 use std::fmt::Write;
 use std::test::Fail;

@@ -1,6 +1,5 @@
-use neigh_replay::SettingsFail;
-use neigh_replay::settings;
 use nb_base::Mode;
+use neigh_replay::{SettingsFail, settings};
 use std::alloc::{AllocError, Global};
 use std::test::Fail;
 

@@ -1,12 +1,12 @@
 ghost use Rattle.std.specs.Prelude.{◌≡◌, [], IfOk};
 ghost use Rattle.nb_base.specs.Params.{InRange};
 
-use neigh_report::{Fates, fates, text};
 use nb_base::{
     Bytes, Class, ControlItem, Host, HostLine, Items, Key, Line, Log, Mac, Mark, Mode, Moment,
     Name, Nud, Op, OpId, Outcome, Params, Placed, Plan, Reply, SendItem, Why,
 };
 use nb_journal::is_evaluable;
+use neigh_report::{Fates, fates, text};
 use neigh_run::Run;
 use std::alloc::{AllocError, Global};
 use std::test::Fail;

@@ -1,5 +1,5 @@
-use neigh_script::{Script, ScriptFail, ScriptItem, read, write};
 use nb_base::{Bytes, Key, Mac, Moment, Nud, Op};
+use neigh_script::{Script, ScriptFail, ScriptItem, read, write};
 use std::alloc::Global;
 use std::process::Abort;
 use std::test::Fail;

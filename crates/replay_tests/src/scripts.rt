@@ -8,9 +8,9 @@ mod retiming;
 mod timers;
 mod waiting;
 
-use neigh_replay::run;
 use nb_base::{Bytes, Items};
 use nb_io::{MemoryFile, MemoryInputs, MemorySink, OpenGate};
+use neigh_replay::run;
 use std::alloc::{AllocError, Global};
 use std::fmt::Write;
 use std::test::Fail;

@@ -3,8 +3,8 @@ ghost use Rattle.nud_machine.specs.Asked.{greatest};
 ghost use Rattle.nb_journal.specs.Evaluated.{gives_settable};
 ghost use Rattle.nb_journal.specs.Keys as keys_of;
 
-use nb_bucket::{Bucket, BucketFail};
 use nb_base::{Host, Key, Line, Mac, Moment, Name, Nud, Op, OpId, Params, Reply};
+use nb_bucket::{Bucket, BucketFail};
 use nb_journal::{is_line_of_run, is_own};
 use std::alloc::Global;
 use std::test::Fail;

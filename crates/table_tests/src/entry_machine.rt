@@ -1,9 +1,9 @@
 ghost use Rattle.std.specs.Prelude.{◌≤◌, IsTrue};
 ghost use Rattle.nud_machine.specs.Asked.{NamesSettable, FiresAtDue};
 
-use nud_machine::{Act, Acts, Cause, Entry, Event, due, record, step};
 use nb_base::{Host, Key, Mac, Moment, Name, Nud, OpId, Params};
 use nb_queues::WaitQueue;
+use nud_machine::{Act, Acts, Cause, Entry, Event, due, record, step};
 use std::alloc::{AllocError, Global};
 use std::marker::Model;
 use std::test::Fail;

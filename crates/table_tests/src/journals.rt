@@ -1,7 +1,7 @@
 ghost use Rattle.nb_base.specs.Params.{InRange};
 
-use nb_journal::{is_evaluable, is_lawful, is_line_of_run, reply_at, state_at};
 use nb_base::{Key, Line, Mac, Moment, Nud, Op, OpId, Params, Reply};
+use nb_journal::{is_evaluable, is_lawful, is_line_of_run, reply_at, state_at};
 use std::alloc::{AllocError, Global};
 use std::test::Fail;
 

@@ -1,5 +1,5 @@
-use nb_queues::WaitQueue;
 use nb_base::OpId;
+use nb_queues::WaitQueue;
 use std::test::Fail;
 
 #[test]
