@@ -1,5 +1,5 @@
 -- Addresses, as texts, and which addresses are neighbours'.
-use Rattle.std.specs.Prelude.{◌≡◌, ◌<◌, ◌^◌, length, ℕ, Bool, false, ◌&&◌, not, ◌==◌, nat_lt, List, map, Option, Some, None, decimal}
+use Rattle.std.specs.Prelude.{◌≡◌, ◌<◌, ◌^◌, ◌%◌, length, ℕ, Bool, false, ◌&&◌, not, ◌==◌, nat_lt, List, slice_index, map, Option, Some, None, decimal}
 use Rattle.std.specs.Option.{option_map, option_or}
 use Rattle.std.specs.Int.{w32, w128, to_be_bytes, from_be_bytes}
 use Rattle.std.specs.List.{join_with_byte}
@@ -15,6 +15,10 @@ use Rattle.nb_base.specs.Parts.{IsJoined, parts_spelled, hex_byte_of, octet_of, 
 -- a link address is spelled by six parts of one or two hexadecimal digits of either case joined by `:` (this project's own reading of the usual form)
 abbrev pub IsMacText : List ℕ → Mac → Type 0
 IsMacText text mac = IsJoined hex_byte_of 58 text mac.0 × (length mac.0 ≡ 6)
+
+-- a group's address: the first byte is odd, whose lowest bit is the first that is sent (IEEE 802.3 section 3.2.3)
+abbrev pub is_group_mac : Mac → Bool
+is_group_mac mac = slice_index mac.0 0 % 2 == 1
 
 -- the link address that a text spells
 abbrev pub mac_of : List ℕ → Option Mac

@@ -9,3 +9,4 @@ pub mod Words
 pub mod Buckets
 pub mod Ip6
 pub mod Written
+pub mod Ids

@@ -1,5 +1,6 @@
 //! Moments and the numbers of operations.
-ghost use Rattle.std.specs.Prelude.{◌≡◌, ◌+◌, ◌<◌, ◌^◌, Some, decimal};
+ghost use Rattle.std.specs.Prelude.{◌≡◌, ◌+◌, ◌*◌, ◌<◌, ◌^◌, Some, decimal};
+ghost use Rattle.nb_base.specs.Ids.{op_id};
 
 use std::fmt;
 use std::marker::Model;
@@ -51,6 +52,16 @@ impl fmt::Display for Moment {
 /// An operation's number: `32 * n + p` for item `n`, from 1 on, of participant `p`, 0 to 16.
 #[derive(Clone, Copy, Debug, PartialEq, Eq)]
 pub struct OpId(pub u64);
+
+impl OpId {
+    /// The number of an item, counted from 1, of a participant.
+    pub fn new(item: u64, participant: u32) -> OpId
+        requires { 32 * item + participant < 2 ^ 64 }
+        ensures { result ≡ op_id item participant }
+    {
+        OpId(32 * item + u64::from(participant))
+    }
+}
 
 /// The number in decimal.
 impl fmt::Display for OpId {
