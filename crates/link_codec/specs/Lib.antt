@@ -1,2 +1,4 @@
 pub mod Ethernet
 pub mod Arp
+pub mod EtherTypes
+pub mod Groups
