@@ -3,5 +3,5 @@ pub mod Ones
 pub mod Walk
 pub mod Short
 pub mod FirstFailed
-pub mod Written
 pub mod Grammar
+pub mod Written

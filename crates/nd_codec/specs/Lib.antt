@@ -4,3 +4,4 @@ pub mod Options
 pub mod Checks
 pub mod Message
 pub mod Spelling
+pub mod Fail

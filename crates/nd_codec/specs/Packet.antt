@@ -1,6 +1,6 @@
 -- The fields of an IPv6 packet (RFC 8200 section 3) and of the neighbour discovery message in it (RFC 4861 sections 4.3 and 4.4).
 -- A packet is its bytes, and a field at its place is a function of them. Addresses are numbers, their first byte the most significant.
-use Rattle.std.specs.Prelude.{ℕ, ◌/◌, ◌^◌, Bool, ◌==◌, List, take, drop, slice_index}
+use Rattle.std.specs.Prelude.{ℕ, ◌+◌, ◌/◌, ◌%◌, ◌^◌, Bool, ◌==◌, List, take, drop, slice_index}
 use Rattle.std.specs.Int.{bit_at}
 use Rattle.byteorder.specs.Endian.{big_number}
 
@@ -65,3 +65,7 @@ is_group address = address / 2 ^ 120 == 0xff
 -- a solicited-node address is in ff02::1:ff00:0/104 (RFC 4291 section 2.7.1)
 abbrev pub is_solicited_node : ℕ → Bool
 is_solicited_node address = address / 2 ^ 24 == 0xff0200000000000000000001ff
+
+-- the solicited-node address of an address: ff02::1:ff00:0 with its low 24 bits (RFC 4291 section 2.7.1)
+abbrev pub solicited_node : ℕ → ℕ
+solicited_node address = 0xff0200000000000000000001ff000000 + address % 2 ^ 24

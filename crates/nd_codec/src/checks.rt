@@ -4,9 +4,9 @@ ghost use Rattle.nd_codec.specs.Packet.{next_header_of, payload_length_of};
 ghost use Rattle.nd_codec.specs.Checks.{HasMessage, IsWhole};
 ghost use Rattle.nd_codec.specs.Checks as checks;
 
+use crate::addresses::{is_group, is_solicited_node};
 use crate::fields::{
-    destination, is_group, is_solicited_node, message, message_checksum, option_bytes,
-    payload_length, solicited, source, target,
+    destination, message, message_checksum, option_bytes, payload_length, solicited, source, target,
 };
 use crate::options::{are_options, has_option};
 use crate::sums::checksum_cleared;

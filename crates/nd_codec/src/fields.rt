@@ -112,15 +112,3 @@ pub(crate) fn option_bytes(message: &[u8]) -> &[u8]
     let (_, options) = message.split_at(24);
     options
 }
-
-pub(crate) fn is_group(address: u128) -> bool
-    ensures { result ≡ packets.is_group address }
-{
-    address >> 120 == 0xff
-}
-
-pub(crate) fn is_solicited_node(address: u128) -> bool
-    ensures { result ≡ packets.is_solicited_node address }
-{
-    address >> 24 == 0xff02_0000_0000_0000_0000_0001_ff
-}

@@ -1,6 +1,7 @@
 //! Neighbour discovery: solicitations and advertisements as IPv6 packets (RFC 4861).
 #![tactic(auto)]
 
+mod addresses;
 mod checks;
 mod fields;
 mod message;
@@ -9,6 +10,7 @@ mod reading;
 mod sums;
 mod writing;
 
+pub use addresses::solicited_node;
 pub use message::{Nd, NdFail};
 pub use options::options_are_those_of_the_grammar;
 pub use reading::read_nd;

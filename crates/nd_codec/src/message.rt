@@ -1,4 +1,7 @@
 //! What a neighbour discovery packet says, and why one can't be used.
+ghost use Rattle.std.specs.Prelude.{◌≡◌};
+ghost use Rattle.nd_codec.specs.Fail.{number_of};
+
 use nb_base::Mac;
 
 /// A neighbour solicitation (RFC 4861 section 4.3) or a neighbour advertisement (RFC 4861 section 4.4), with the source and the destination of its IPv6 header.
@@ -45,4 +48,23 @@ pub enum NdFail {
     Unspecified,
     /// An advertisement to a group says that it was solicited.
     SolicitedToGroup,
+}
+
+impl NdFail {
+    /// The number of the check, 1 to 9, in their order.
+    pub fn number(self) -> u8
+        ensures { result ≡ number_of self }
+    {
+        match self {
+            NdFail::Short => 1,
+            NdFail::NotIcmp => 2,
+            NdFail::HopLimit => 3,
+            NdFail::Code => 4,
+            NdFail::Checksum => 5,
+            NdFail::Target => 6,
+            NdFail::ZeroOption => 7,
+            NdFail::Unspecified => 8,
+            NdFail::SolicitedToGroup => 9,
+        }
+    }
 }

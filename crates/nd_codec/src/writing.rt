@@ -1,8 +1,9 @@
 //! Writing a packet.
-ghost use Rattle.std.specs.Prelude.{◌≡◌, ◌≢◌, ◌&&◌, false, Some, Ok, length};
+ghost use Rattle.std.specs.Prelude.{◌≡◌, ◌≢◌, ◌≤◌, ◌&&◌, ◌++◌, false, Some, Ok, length, take, drop};
+ghost use Rattle.byteorder.specs.Endian.{big_bytes};
 ghost use Rattle.nd_codec.specs.Packet.{is_group};
 ghost use Rattle.nd_codec.specs.Message.{read_of};
-ghost use Rattle.nd_codec.specs.Spelling.{advert_bytes, flags_of, header_bytes, message_bytes, packet_bytes, solicit_bytes};
+ghost use Rattle.nd_codec.specs.Spelling.{advert_bytes, flags_of, header_bytes, link_option, message_bytes, packet_bytes, solicit_bytes};
 ghost use Rattle.nd_codec.specs.declared.message.Nd.TheVariants as nd;
 
 use crate::checks::{ADVERT, ICMP6, SOLICIT};
@@ -77,19 +78,27 @@ fn flags(solicited: bool, overrides: bool) -> u8
 /// The header, and the message with the checksum of itself with the checksum as zero.
 fn write_packet(into: &mut [u8; 72], source: u128, dest: u128, body: &Body)
     ensures address { length body.now.lladdr.0 ≡ 6 }
-    ensures bytes { into.new ≡ packet_bytes source dest body.now.kind body.now.flags body.now.target body.now.option body.now.lladdr }
+    ensures bytes { into.new ≡ packet_bytes source dest body.now.kind body.now.flags body.now.target (link_option body.now.option body.now.lladdr) }
 {
     let (header, message) = into.split_at_mut(40);
     write_header(header, source, dest);
-    write_message(message, 0, body);
+    write_message(message, body);
     let sum = checksum(source, dest, message);
-    write_message(message, sum, body);
+    put_checksum(message, sum);
+}
+
+/// The checksum goes into its two bytes.
+fn put_checksum(message: &mut [u8], checksum: u16)
+    requires { 4 ≤ length message.old }
+    ensures { message.new ≡ take 2 message.old ++ (big_bytes 2 checksum ++ drop 4 message.old) }
+{
+    message[2..4].copy_from_slice(&checksum.to_be_bytes());
 }
 
 #[tactic(auto, unfolding(crate::specs::Spelling::header_bytes))]
 fn write_header(into: &mut [u8], source: u128, dest: u128)
     requires { length into.old ≡ 40 }
-    ensures { into.new ≡ header_bytes source dest }
+    ensures { into.new ≡ header_bytes source dest 32 }
 {
     let (start, addresses) = into.split_at_mut(8);
     start.copy_from_slice(&[0x60, 0, 0, 0, 0, 32, ICMP6, 255]);
@@ -98,15 +107,15 @@ fn write_header(into: &mut [u8], source: u128, dest: u128)
     to.copy_from_slice(&dest.to_be_bytes());
 }
 
+/// The message with a checksum of zero.
 #[tactic(auto, unfolding(crate::specs::Spelling::message_bytes))]
-fn write_message(into: &mut [u8], checksum: u16, body: &Body)
+fn write_message(into: &mut [u8], body: &Body)
     requires { length into.old ≡ 32 }
     ensures address { length body.now.lladdr.0 ≡ 6 }
-    ensures bytes { into.new ≡ message_bytes body.now.kind checksum body.now.flags body.now.target body.now.option body.now.lladdr }
+    ensures bytes { into.new ≡ message_bytes body.now.kind 0 body.now.flags body.now.target (link_option body.now.option body.now.lladdr) }
 {
-    let [high, low] = checksum.to_be_bytes();
     let (start, rest) = into.split_at_mut(8);
-    start.copy_from_slice(&[body.kind, 0, high, low, body.flags, 0, 0, 0]);
+    start.copy_from_slice(&[body.kind, 0, 0, 0, body.flags, 0, 0, 0]);
     let (target, option) = rest.split_at_mut(16);
     target.copy_from_slice(&body.target.to_be_bytes());
     let (head, lladdr) = option.split_at_mut(2);
