@@ -3,3 +3,4 @@ pub mod Kept
 pub mod MemoryFiles
 pub mod MemorySinks
 pub mod Opened
+pub mod Names

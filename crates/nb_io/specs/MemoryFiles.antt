@@ -1,5 +1,5 @@
 -- What the inputs in memory hold, and how they answer. (This project's own.)
-use Rattle.std.specs.Prelude.{◌≡◌, ℕ, Bool, List, Option, None, is_some, not, ◌&&◌}
+use Rattle.std.specs.Prelude.{◌≡◌, ℕ, Bool, List, length, min, Option, None, is_some, not, ◌&&◌}
 use Rattle.nb_io.specs.Faults.{fails_at, next_call}
 use Rattle.nb_io.specs.Kept.{place_of, held_in, faults_in, name_at, left_at}
 use Rattle.nb_io.specs.declared.memory.MemoryFile.{MemoryFile}
@@ -40,6 +40,10 @@ left_of s file = left_at (files_of s) s.readers.items file
 -- the next call's number isn't among those that are to fail
 abbrev pub read_succeeds : MemoryInputs → Bool
 read_succeeds s = not (fails_at (inputs_fails s) (next_call (inputs_calls s)))
+
+-- a read that doesn't fail gives the least of what is left of the file and the room for it
+abbrev pub read_count : MemoryInputs → List ℕ → ℕ → ℕ
+read_count s rest room = min (length rest) room
 
 -- an opening also asks that the name is held
 abbrev pub open_succeeds : MemoryInputs → List ℕ → Bool

@@ -1,5 +1,5 @@
 //! Inputs over the files of the system.
-ghost use Rattle.std.specs.Prelude.{◌≡◌, ◌<◌, ◌≤◌, ℕ, List, length, IsTrue, None, is_some, IsSome, IsErr, IfOk, OnOk, OnErr, false};
+ghost use Rattle.std.specs.Prelude.{◌≡◌, ◌≢◌, Ok, ◌<◌, ◌≤◌, ℕ, List, length, IsTrue, None, is_some, IsSome, IsErr, IfOk, OnOk, OnErr, false};
 ghost use Rattle.nb_io.specs.Faults.{risen, HasCause};
 ghost use Rattle.std.specs.Io.KnownBytes.{ReadConsumes};
 ghost use Rattle.nb_io.specs.Opened.{is_opened, opened_at, behind};
@@ -52,10 +52,13 @@ impl<R: Files + Drop> Inputs for FileInputs<R> {
     ghost left = { λ _ _. None };
 
     /// It fails where two files are opened, and where the system doesn't open the file; a want of
-    /// memory in there is such a fault.
+    /// memory in there is such a fault. A file that was opened stays in its place.
     fn open(&mut self, name: &str) -> Result<u32, Failed>
         ensures opened { IfOk result (λ file. IsTrue (is_opened self.new.first self.new.second file)) }
         ensures names { (file : ℕ) → IsTrue (is_opened self.old.first self.old.second file) → IsTrue (is_opened self.new.first self.new.second file) }
+        ensures only { (file : ℕ) → result ≢ Ok file → IsTrue (is_opened self.new.first self.new.second file) → IsTrue (is_opened self.old.first self.old.second file) }
+        ensures first { result ≢ Ok 0 → self.new.first ≡ self.old.first }
+        ensures second { result ≢ Ok 1 → self.new.second ≡ self.old.second }
         ensures next { IfOk result (λ file. is_opened self.old.first self.old.second file ≡ false) }
         ensures later { self.old.faults ≤ self.new.faults }
         ensures cause { HasCause self.old.faults self.new.faults result }
@@ -78,12 +81,15 @@ impl<R: Files + Drop> Inputs for FileInputs<R> {
         Err(Failed)
     }
 
-    /// Where the opened file tells what it still gives, the bytes read are taken from its front.
+    /// Where the opened file tells what it still gives, the bytes read are taken from its front. The
+    /// other file stays as it was.
     fn read(&mut self, file: u32, into: &mut [u8]) -> Result<usize, Failed>
         requires opened { (name : List ℕ) × IsTrue (is_opened self.old.first self.old.second file) }
         requires room { 0 < length into.old }
         ensures count { IfOk result (λ count. count ≤ length into.new) }
-        ensures names { (other : ℕ) → IsTrue (is_opened self.old.first self.old.second other) → IsTrue (is_opened self.new.first self.new.second other) }
+        ensures names { (other : ℕ) → is_opened self.new.first self.new.second other ≡ is_opened self.old.first self.old.second other }
+        ensures first { file ≢ 0 → self.new.first ≡ self.old.first }
+        ensures second { file ≡ 0 → self.new.second ≡ self.old.second }
         ensures later { self.old.faults ≤ self.new.faults }
         ensures cause { HasCause self.old.faults self.new.faults result }
         ensures passed { ReadConsumes (behind R.File.remaining (opened_at self.old.first self.old.second file))

@@ -1,7 +1,8 @@
 //! Inputs by name, and whole files of them.
-ghost use Rattle.std.specs.Prelude.{◌≡◌, ◌≢◌, ℕ, ◌+◌, ◌<◌, ◌≤◌, List, length, drop, Option, Some, Ok, Err, is_some, IfSome, IfOk, OnOk, OnErr};
+ghost use Rattle.std.specs.Prelude.{◌≡◌, ◌≢◌, ◌↔◌, ℕ, ◌+◌, ◌<◌, ◌≤◌, List, length, drop, Option, Some, Ok, Err, is_some, IfSome, IfOk, OnOk, OnErr};
 ghost use Rattle.std.specs.Io.KnownBytes.{ReadConsumes};
 ghost use Rattle.nb_io.specs.Faults.{Rose, HasCause};
+ghost use Rattle.nb_io.specs.Names.{OpensOne};
 
 use crate::Failed;
 use nb_base::{Bytes, Items};
@@ -23,13 +24,15 @@ pub trait Inputs {
     ghost left: { Self → ℕ → Option (List ℕ) };
 
     /// Opens a file by name and gives its number, whose place is the file's front. It changes the
-    /// place of no other number, and of none where it fails.
+    /// place of no other number, and of none where it fails. No number loses its name, and no other
+    /// number is opened.
     ///
     /// `Failed` comes only where the count of `name` rose.
     fn open(&mut self, name: &str) -> Result<u32, Failed>
         ensures opened { IfOk result (λ file. name_of self.new file name.now) }
         ensures front { IfOk result (λ file. left self.new file ≡ held self.old name.now) }
-        ensures names { (file : ℕ) (other : List ℕ) → result ≢ Ok file → name_of self.old file other → name_of self.new file other }
+        ensures names { (file : ℕ) (other : List ℕ) → name_of self.old file other → name_of self.new file other }
+        ensures only { (file : ℕ) (other : List ℕ) → result ≢ Ok file → name_of self.new file other → name_of self.old file other }
         ensures others { (file : ℕ) → result ≢ Ok file → left self.new file ≡ left self.old file }
         ensures held { (other : List ℕ) → held self.new other ≡ held self.old other }
         ensures later { (other : List ℕ) → faults self.old other ≤ faults self.new other }
@@ -46,7 +49,7 @@ pub trait Inputs {
         ensures bytes { ReadConsumes (left self.old file) (left self.new file) result into.new }
         ensures told { is_some (left self.new file) ≡ is_some (left self.old file) }
         ensures refused { OnErr result (left self.new file ≡ left self.old file) }
-        ensures names { (other : ℕ) (name : List ℕ) → name_of self.old other name → name_of self.new other name }
+        ensures names { (other : ℕ) (name : List ℕ) → (name_of self.old other name ↔ name_of self.new other name) }
         ensures others { (other : ℕ) → other ≢ file → left self.new other ≡ left self.old other }
         ensures held { (other : List ℕ) → held self.new other ≡ held self.old other }
         ensures later { (other : List ℕ) → faults self.old other ≤ faults self.new other }
@@ -67,8 +70,8 @@ pub enum ReadFail {
 /// Reads a whole file of at most `limit` bytes.
 ///
 /// `ReadFault` comes only where the count of `name` rose. `TooLong` comes where `limit + 1` bytes
-/// were read without a fault, and nothing further is read then. No other file number's place
-/// changes, and no name holds anything else afterwards.
+/// were read without a fault, and nothing further is read then. At most one file number is opened,
+/// once. No other file number's place changes, and no name holds anything else afterwards.
 pub fn read_all<I: Inputs>(
     alloc: Global,
     inputs: &mut I,
@@ -83,6 +86,7 @@ pub fn read_all<I: Inputs>(
         × IfSome (I.held inputs.old name.now) (λ all. I.left inputs.new file ≡ Some (drop (limit + 1) all))) }
     ensures fault { result ≡ Err ReadFail.ReadFault → Rose (I.faults inputs.old name.now) (I.faults inputs.new name.now) }
     ensures held { (other : List ℕ) → I.held inputs.new other ≡ I.held inputs.old other }
+    ensures names { OpensOne (I.name_of inputs.old) (I.name_of inputs.new) }
     ensures places { (file : ℕ) → (I.name_of inputs.new file name.now → ⊥) → I.left inputs.new file ≡ I.left inputs.old file }
     ensures later { (other : List ℕ) → I.faults inputs.old other ≤ I.faults inputs.new other }
 {

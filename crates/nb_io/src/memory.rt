@@ -168,7 +168,7 @@ fn raise(files: &[MemoryFile], readers: &mut Vec<Reader>, missing: &mut u64, nam
 }
 
 impl Inputs for MemoryInputs {
-    ghost use Rattle.nb_io.specs.MemoryFiles.{held_of, faults_of, number_of, name_of_number, left_of, open_succeeds, read_succeeds, CountsCall};
+    ghost use Rattle.nb_io.specs.MemoryFiles.{held_of, faults_of, number_of, name_of_number, left_of, open_succeeds, read_succeeds, read_count, CountsCall};
 
     ghost held = { λ s name. held_in s.files.items name };
 
@@ -184,7 +184,8 @@ impl Inputs for MemoryInputs {
     fn open(&mut self, name: &str) -> Result<u32, Failed>
         ensures opened { IfOk result (λ file. name_of_number self.new file ≡ Some name.now) }
         ensures front { IfOk result (λ file. left_of self.new file ≡ held_of self.old name.now) }
-        ensures names { (file : ℕ) (other : List ℕ) → result ≢ Ok file → name_of_number self.old file ≡ Some other → name_of_number self.new file ≡ Some other }
+        ensures names { (file : ℕ) (other : List ℕ) → name_of_number self.old file ≡ Some other → name_of_number self.new file ≡ Some other }
+        ensures only { (file : ℕ) → result ≢ Ok file → name_of_number self.new file ≡ name_of_number self.old file }
         ensures others { (file : ℕ) → result ≢ Ok file → left_of self.new file ≡ left_of self.old file }
         ensures held { (other : List ℕ) → held_of self.new other ≡ held_of self.old other }
         ensures later { (other : List ℕ) → faults_of self.old other ≤ faults_of self.new other }
@@ -221,13 +222,13 @@ impl Inputs for MemoryInputs {
         ensures bytes { ReadConsumes (left_of self.old file) (left_of self.new file) result into.new }
         ensures told { is_some (left_of self.new file) ≡ is_some (left_of self.old file) }
         ensures refused { OnErr result (left_of self.new file ≡ left_of self.old file) }
-        ensures names { (other : ℕ) (name : List ℕ) → name_of_number self.old other ≡ Some name → name_of_number self.new other ≡ Some name }
+        ensures names { (other : ℕ) → name_of_number self.new other ≡ name_of_number self.old other }
         ensures others { (other : ℕ) → other ≢ file → left_of self.new other ≡ left_of self.old other }
         ensures held { (other : List ℕ) → held_of self.new other ≡ held_of self.old other }
         ensures later { (other : List ℕ) → faults_of self.old other ≤ faults_of self.new other }
         ensures cause { (name : List ℕ) → name_of_number self.old file ≡ Some name → HasCause (faults_of self.old name) (faults_of self.new name) result }
         ensures succeeds { is_ok result ≡ read_succeeds self.old }
-        ensures least { IfOk result (λ count. IfSome (left_of self.old file) (λ rest. count ≡ min (length rest) (length into.new))) }
+        ensures least { IfOk result (λ count. IfSome (left_of self.old file) (λ rest. count ≡ read_count self.old rest (length into.new))) }
         ensures kept { OnOk result ((other : List ℕ) → faults_of self.new other ≡ faults_of self.old other) }
         ensures raised { (name : List ℕ) → name_of_number self.old file ≡ Some name → OnErr result (faults_of self.new name ≡ risen (faults_of self.old name)) }
         ensures apart { (name : List ℕ) (other : List ℕ) → name_of_number self.old file ≡ Some name → number_of self.old other ≢ number_of self.old name → faults_of self.new other ≡ faults_of self.old other }

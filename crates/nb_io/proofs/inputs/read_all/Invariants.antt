@@ -14,6 +14,8 @@ invariant-loop-count g l =
       opened : name_of l.inputs l.file l.name;
       done : Consumes (held l.fn.inputs l.name) (left l.inputs l.file) l.bytes.items;
       held : (other : List ℕ) → held l.inputs other ≡ held l.fn.inputs other;
+      names : (file : ℕ) (name : List ℕ) → name_of l.fn.inputs file name → name_of l.inputs file name;
+      only : (file : ℕ) (name : List ℕ) → (file ≡ l.file → ⊥) → name_of l.inputs file name → name_of l.fn.inputs file name;
       places : (file : ℕ) → (name_of l.inputs file l.name → ⊥) → left l.inputs file ≡ left l.fn.inputs file;
       later : (other : List ℕ) → faults l.fn.inputs other ≤ faults l.inputs other;
     }
