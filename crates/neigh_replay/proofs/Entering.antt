@@ -27,7 +27,7 @@ use Rattle.nb_bucket.specs.declared.fail.BucketFail.TheVariants.{JournalFull}
 use Rattle.neigh_run.specs.Merged.{Entered}
 use Rattle.neigh_run.specs.Inline.{entered_line, own_lines, ends_own}
 use Rattle.neigh_replay.specs.declared.answers.Answer.{Answer}
-use Rattle.neigh_replay.specs.Inline.{most_lines}
+use Rattle.neigh_plan.specs.Inline.{most_lines}
 use Rattle.neigh_replay.specs.Answered.{answer_to, answers_behind, HasEntered}
 
 -- ---- lines that are no operations

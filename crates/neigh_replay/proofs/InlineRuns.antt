@@ -31,11 +31,11 @@ use Rattle.neigh_run.specs.Inline.{own_lines, entered_line, placed_at, placed_fr
 use Rattle.neigh_run.specs.declared.run.Run.{Run}
 use Rattle.neigh_run.specs.Plan.{IsWithinLimits}
 use Rattle.neigh_replay.specs.declared.answers.Answer.{Answer}
-use Rattle.neigh_replay.specs.Merging.{lines_of}
+use Rattle.neigh_plan.specs.Merging.{lines_of}
 use Rattle.neigh_replay.specs.Answered.{answer_to, answers_behind, HasEntered, log_by, logs_by, host_lines_by, run_by, IsNumbered}
-use Rattle.neigh_replay.proofs.Orders.{Each, count, entered_again}
-use Rattle.neigh_replay.proofs.Numbers.{has_id, is_by, Owns, IsSmall}
-use Rattle.neigh_replay.proofs.Owners.{IsInOrder, in_order}
+use Rattle.neigh_plan.proofs.Orders.{Each, count, entered_again}
+use Rattle.neigh_run.proofs.Numbers.{has_id, is_by, Owns, IsSmall}
+use Rattle.neigh_plan.proofs.Owners.{IsInOrder, in_order}
 use Rattle.neigh_replay.proofs.Placed.{operations, IsNamedOnce, placed, placed_is}
 
 -- a table of one bucket has every key in it

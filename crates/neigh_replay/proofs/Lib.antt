@@ -1,21 +1,11 @@
-pub mod Replays
-pub mod Planned
-pub mod Merges
-pub mod Orders
-pub mod Participants
-pub mod Numbers
-pub mod Owners
-pub mod KeysNamed
-pub mod Entering
-pub mod Tasks
-pub mod Placed
-pub mod Logs
-pub mod InlineRuns
-pub mod Steps
-pub mod Faultless
-pub mod TakenWords
-pub mod AskedRows
-pub mod ScriptLimits
-pub mod ScriptBounds
-pub mod Unentered
+pub mod Verdicts
+mod Replays
+mod Given
+mod Entering
+mod Tasks
+mod Placed
+mod Logs
+mod InlineRuns
+mod Steps
+mod Unentered
 pub mod ScriptRuns

@@ -17,8 +17,8 @@ use Rattle.nb_journal.specs.Fold.{id_of, reply_of}
 use Rattle.nb_journal.specs.Lawful.{each_line}
 use Rattle.neigh_run.specs.Merged.{Entered}
 use Rattle.neigh_run.specs.Inline.{entered_line, own_lines, find_place, placed_at}
-use Rattle.neigh_replay.proofs.Orders.{count, count_append}
-use Rattle.neigh_replay.proofs.Numbers.{has_id}
+use Rattle.neigh_plan.proofs.Orders.{count, count_append}
+use Rattle.neigh_run.proofs.Numbers.{has_id}
 
 -- the operations of a journal's lines
 abbrev pub operations : List Line → List Entered

@@ -1,244 +1,201 @@
--- From what each status says to the whole of a replay.
-use Rattle.std.proofs.Common.{◌≡◌, ◌≢◌, ℕ, ◌<◌, ◌≤◌, Bool, true, false, List, [], ◌∷◌, length, Option, Some, None, refl, sym, ap, subst, ◌∙◌, arith, inl, inr}
-use Rattle.std.specs.Prelude.{Result, Ok, Err, IfSome}
+-- From what the parts of the code give to the whole of a replay.
+use Rattle.std.proofs.Common.{◌≡◌, ◌≢◌, ℕ, true, List, [], ◌∷◌, Option, Some, None, refl, sym, subst, ◌∙◌, inl, inr}
+use Rattle.std.specs.Prelude.{◌==◌}
 use Rattle.std.proofs.lemmas.Bool.Decides.{eqb_tells}
-use Rattle.neigh_script.specs.declared.script.Script.{Script}
-use Rattle.neigh_script.specs.declared.why.ScriptWhy.{ScriptWhy}
-use Rattle.neigh_script.specs.declared.why.ScriptFail.{ScriptFail}
-use Rattle.neigh_script.specs.Lines.{script_of}
+use Rattle.nb_base.specs.declared.plan.Mode.TheVariants as mode
 use Rattle.nb_base.specs.declared.plan.Plan.{Plan}
-use Rattle.neigh_run.specs.declared.run.Run.{Run}
-use Rattle.neigh_run.specs.Inline.{IsInlineRun, IsTooLarge, journal_at}
-use Rattle.neigh_run.specs.Plan.{plan_of, is_replayed}
-use Rattle.neigh_replay.specs.Settings.{Asked, asked}
-use Rattle.neigh_replay.specs.Inline.{most_lines}
-use Rattle.neigh_replay.specs.Status.{IsOneOf, line_of, line_for, usage_line}
-use Rattle.neigh_replay.specs.Replay.{script_limit, IsReplayedText, IsOtherText, IsTooLargeText, IsRefusedText, IsReportOf, WritesReport, WritesPart, Outside, IsUntouched, SinkSays, SinkFailed, NameFailed, IsRefusal, IsReplay, IsCommand}
+use Rattle.neigh_run.specs.Plan.{is_replayed}
+use Rattle.neigh_words.specs.Settings.{Asked, asked}
+use Rattle.neigh_replay.specs.declared.replay.Failure.{Failure}
+use Rattle.neigh_replay.specs.declared.replay.Failure.TheVariants.{Memory, ReadFault, WriteFault, TooLong, Refused, TooLarge, NotBuilt}
+use Rattle.neigh_replay.specs.Verdict.{Verdict, Report, AreTold, HavePlan, Gives, not_asked, is_built, status_of, instead_of, line_of}
+use Rattle.neigh_replay.specs.Verdict as verdict
+use Rattle.neigh_replay.specs.Status.{IsOneOf, memory_line, usage_line}
+use Rattle.neigh_replay.specs.Replay.{FilesCall, SinkCall, SinkSays, IsUntouched, GivesTold, Shows, IsReplay, IsCommand, NothingFailed, ReplaysAreComplete, ScriptsAreComplete}
+use Rattle.neigh_replay.specs.Failures.{WritesReport, Fails, line_for, status_for}
+use Rattle.neigh_replay.proofs.Verdicts.{one_status, by_plan, plan_status, of_plan_report, replayed_status}
 
--- what holds of each answer holds of the status
-by_status : (P : ℕ → Type 0) (status : ℕ) → IsOneOf (0 ∷ 1 ∷ 3 ∷ 5 ∷ 6 ∷ 7 ∷ 8 ∷ 9 ∷ []) status → P 0 → P 1 → P 3 → P 5 → P 6 → P 7 → P 8 → P 9 → P status
-by_status P status h p0 p1 p3 p5 p6 p7 p8 p9 =
-    elim (eqb_tells 0 status) [
-      | inl s ↦ subst P s.1 p0
-      | inr a0 ↦ elim (eqb_tells 1 status) [
-        | inl s ↦ subst P s.1 p1
-        | inr a1 ↦ elim (eqb_tells 3 status) [
-          | inl s ↦ subst P s.1 p3
-          | inr a3 ↦ elim (eqb_tells 5 status) [
-            | inl s ↦ subst P s.1 p5
-            | inr a5 ↦ elim (eqb_tells 6 status) [
-              | inl s ↦ subst P s.1 p6
-              | inr a6 ↦ elim (eqb_tells 7 status) [
-                | inl s ↦ subst P s.1 p7
-                | inr a7 ↦ elim (eqb_tells 8 status) [
-                  | inl s ↦ subst P s.1 p8
-                  | inr a8 ↦ elim (eqb_tells 9 status) [
-                    | inl s ↦ subst P s.1 p9
-                    | inr a9 ↦ absurd (let none = rw (a0.0, a1.0, a3.0, a5.0, a6.0, a7.0, a8.0, a9.0) at h in cc)
-                  ]
-                ]
-              ]
-            ]
-          ]
+-- ---- statuses
+
+same_number : (n : ℕ) → (n == n) ≡ true
+same_number n = elim (eqb_tells n n) [
+  | inl s ↦ s.0
+  | inr d ↦ absurd (d.1 refl)
+]
+
+first_is_one : (n : ℕ) (others : List ℕ) → IsOneOf (n ∷ others) n
+first_is_one n others = rw (same_number n) refl
+
+-- no verdict has the status of a failure outside, nor that of other words
+not_memory : (v : Verdict) → status_of v ≡ 1 → ⊥
+not_memory verdict.NotBuilt e = cc
+not_memory (verdict.TooLong name) e = cc
+not_memory (verdict.CaptureRefused fail) e = cc
+not_memory (verdict.ScriptRefused line why) e = cc
+not_memory verdict.TooLarge e = cc
+not_memory (Report text) e = cc
+
+not_usage : (v : Verdict) → status_of v ≡ 2 → ⊥
+not_usage verdict.NotBuilt e = cc
+not_usage (verdict.TooLong name) e = cc
+not_usage (verdict.CaptureRefused fail) e = cc
+not_usage (verdict.ScriptRefused line why) e = cc
+not_usage verdict.TooLarge e = cc
+not_usage (Report text) e = cc
+
+not_read : (v : Verdict) → status_of v ≡ 3 → ⊥
+not_read verdict.NotBuilt e = cc
+not_read (verdict.TooLong name) e = cc
+not_read (verdict.CaptureRefused fail) e = cc
+not_read (verdict.ScriptRefused line why) e = cc
+not_read verdict.TooLarge e = cc
+not_read (Report text) e = cc
+
+not_write : (v : Verdict) → status_of v ≡ 6 → ⊥
+not_write verdict.NotBuilt e = cc
+not_write (verdict.TooLong name) e = cc
+not_write (verdict.CaptureRefused fail) e = cc
+not_write (verdict.ScriptRefused line why) e = cc
+not_write verdict.TooLarge e = cc
+not_write (Report text) e = cc
+
+-- want of memory and a file that can't be read may stand for every verdict
+memory_instead : (v : Verdict) → IsOneOf (status_of v ∷ instead_of v) 1
+memory_instead verdict.NotBuilt = refl
+memory_instead (verdict.TooLong name) = refl
+memory_instead (verdict.CaptureRefused fail) = refl
+memory_instead (verdict.ScriptRefused line why) = refl
+memory_instead verdict.TooLarge = refl
+memory_instead (Report text) = refl
+
+read_instead : (v : Verdict) → IsOneOf (status_of v ∷ instead_of v) 3
+read_instead verdict.NotBuilt = refl
+read_instead (verdict.TooLong name) = refl
+read_instead (verdict.CaptureRefused fail) = refl
+read_instead (verdict.ScriptRefused line why) = refl
+read_instead verdict.TooLarge = refl
+read_instead (Report text) = refl
+
+-- and an output that can't be written for a report
+write_instead : (v : Verdict) → 0 ≡ status_of v → IsOneOf (status_of v ∷ instead_of v) 6
+write_instead verdict.NotBuilt e = absurd cc
+write_instead (verdict.TooLong name) e = absurd cc
+write_instead (verdict.CaptureRefused fail) e = absurd cc
+write_instead (verdict.ScriptRefused line why) e = absurd cc
+write_instead verdict.TooLarge e = absurd cc
+write_instead (Report text) e = refl
+
+-- ---- replays
+
+pub decided_replay : (a : Asked) (files : FilesCall) (out err : SinkCall) (v : Verdict) → (status_of v ≢ 7) → GivesTold a files v → Shows v out err → IsReplay a files out err (status_of v)
+decided_replay a files out err v small given shown = record {
+  no_memory = λ e. absurd (not_memory v e);
+  cannot_read = λ e. absurd (not_read v e);
+  cannot_write = λ e. absurd (not_write v e);
+  never_too_large = λ none. small;
+  decided = λ e f g. record { verdict = v; given = given; answered = refl; shown = shown };
+  always = λ told w gives. subst (λ (n : ℕ). IsOneOf (n ∷ instead_of w) (status_of v)) (one_status a files.held v w (given told) gives) (first_is_one (status_of v) (instead_of w));
+}
+
+pub memory_replay : (a : Asked) (files : FilesCall) (out err : SinkCall) → IsUntouched out → SinkSays err memory_line → IsReplay a files out err 1
+memory_replay a files out err untouched said = record {
+  no_memory = λ e. record { untouched = untouched; said = said };
+  cannot_read = λ e. absurd cc;
+  cannot_write = λ e. absurd cc;
+  never_too_large = λ none e. cc;
+  decided = λ e f g. absurd (e refl);
+  always = λ told w gives. memory_instead w;
+}
+
+pub written_replay : (a : Asked) (files : FilesCall) (out err : SinkCall) → WritesReport a files out → IsUntouched err → IsReplay a files out err 0
+written_replay a files out err w quiet = decided_replay a files out err (Report w.text) (λ e. cc) w.given (w.written, quiet)
+
+pub failed_replay : (a : Asked) (files : FilesCall) (out err : SinkCall) (failure : Failure) → Fails a files out failure → SinkSays err (line_for a.script failure) → IsReplay a files out err (status_for failure)
+failed_replay a files out err Memory h said = memory_replay a files out err h.1 said
+failed_replay a files out err ReadFault h said = record {
+  no_memory = λ e. absurd cc;
+  cannot_read = λ e. record { place = 0; name = a.script; asked = refl; failed = h.0; untouched = h.1; said = said };
+  cannot_write = λ e. absurd cc;
+  never_too_large = λ none e. cc;
+  decided = λ e f g. absurd (f refl);
+  always = λ told w gives. read_instead w;
+}
+failed_replay a files out err WriteFault h said = record {
+  no_memory = λ e. absurd cc;
+  cannot_read = λ e. absurd cc;
+  cannot_write = λ e. record { text = h.text; given = h.given; failed = h.failed; count = h.count; part = h.part; said = said };
+  never_too_large = λ none e. cc;
+  decided = λ e f g. absurd (g refl);
+  always = λ told w gives. write_instead w (one_status a files.held (Report h.text) w (h.given told) gives);
+}
+failed_replay a files out err TooLong h said = decided_replay a files out err (verdict.TooLong a.script) (λ e. cc) h.0 (h.1, said)
+failed_replay a files out err (Refused line why) h said = decided_replay a files out err (verdict.ScriptRefused line why) (λ e. cc) h.0 (h.1, said)
+failed_replay a files out err TooLarge h said = absurd h.0
+failed_replay a files out err NotBuilt h said = decided_replay a files out err verdict.NotBuilt (λ e. cc) h.0 (h.1, said)
+
+-- no failure but a failed write touched the output
+untouched_by : (a : Asked) (files : FilesCall) (out : SinkCall) (failure : Failure) → (failure ≡ WriteFault → ⊥) → Fails a files out failure → IsUntouched out
+untouched_by a files out Memory other h = h.1
+untouched_by a files out ReadFault other h = h.1
+untouched_by a files out WriteFault other h = absurd (other refl)
+untouched_by a files out TooLong other h = h.1
+untouched_by a files out (Refused line why) other h = h.1
+untouched_by a files out TooLarge other h = h.1
+untouched_by a files out NotBuilt other h = h.1
+
+-- what is said instead of a failure
+pub said_instead : (a : Asked) (files : FilesCall) (out : SinkCall) (failure said : Failure) → (said ≢ Memory → said ≡ failure) → (failure ≡ WriteFault → said ≡ WriteFault) → Fails a files out failure → Fails a files out said
+said_instead a files out failure Memory same kept h = (tt, untouched_by a files out failure (λ e. let both : Memory ≡ WriteFault = kept e in cc) h)
+said_instead a files out failure ReadFault same kept h = subst (Fails a files out) (sym (same (λ e. cc))) h
+said_instead a files out failure WriteFault same kept h = subst (Fails a files out) (sym (same (λ e. cc))) h
+said_instead a files out failure TooLong same kept h = subst (Fails a files out) (sym (same (λ e. cc))) h
+said_instead a files out failure (Refused line why) same kept h = subst (Fails a files out) (sym (same (λ e. cc))) h
+said_instead a files out failure TooLarge same kept h = subst (Fails a files out) (sym (same (λ e. cc))) h
+said_instead a files out failure NotBuilt same kept h = subst (Fails a files out) (sym (same (λ e. cc))) h
+
+-- the mode `threads` isn't built
+pub threads_replay : (a : Asked) (files : FilesCall) (out err : SinkCall) → a.mode ≡ mode.Threads → IsUntouched out → SinkSays err (line_of verdict.NotBuilt) → IsReplay a files out err 9
+threads_replay a files out err threads untouched said = decided_replay a files out err verdict.NotBuilt (λ e. cc) (λ told. not_asked (rw threads refl)) (untouched, said)
+
+-- ---- completeness
+
+-- a status is 1, 3 or 6, or it is another
+complete : (a : Asked) (files : FilesCall) (out err : SinkCall) (status : ℕ) (plan : Plan) → IsReplay a files out err status → AreTold a files.held → HavePlan a files.held plan → is_replayed plan ≡ true
+    → (status ≡ by_plan plan → status ≡ 0) → NothingFailed a files out → IsOneOf (0 ∷ 1 ∷ []) status
+complete a files out err status plan replay told have replayed zero quiet =
+    elim (eqb_tells status 1) [
+      | inl one ↦ subst (IsOneOf (0 ∷ 1 ∷ [])) (sym one.1) refl
+      | inr a1 ↦ elim (eqb_tells status 3) [
+        | inl three ↦ absurd (let f = replay.cannot_read three.1 in quiet.reading f.place f.name f.asked f.failed)
+        | inr a3 ↦ elim (eqb_tells status 6) [
+          | inl six ↦ absurd (quiet.writing (replay.cannot_write six.1).failed)
+          | inr a6 ↦ subst (IsOneOf (0 ∷ 1 ∷ [])) (sym (zero (let d = replay.decided a1.1 a3.1 a6.1 in d.answered ∙ plan_status a files.held d.verdict plan (d.given told) have))) refl
         ]
       ]
     ]
 
--- what each status says of a script that is told
-pub record Tells (window : ℕ) (held : Option (List ℕ)) (status : ℕ) : Type 0 where
-  pub within : (status ≡ 0 → IfSome held (λ text. length text ≤ script_limit)) × (status ≡ 6 → IfSome held (λ text. length text ≤ script_limit))
-  pub too_long : status ≡ 8 → IfSome held (λ text. script_limit < length text)
-  pub refused : status ≡ 5 → IfSome held (λ text. (line : ℕ) × (why : ScriptWhy) × (length text ≤ script_limit) × IsRefusedText line why text)
-  pub never_too_large : status ≡ 7 → ⊥
-  pub not_built : status ≡ 9 → IfSome held (λ text. (length text ≤ script_limit) × IsOtherText window text)
-  pub done : status ≡ 0 → IfSome held (λ text. (report : List ℕ) × IsReportOf window text report)
-  pub part : status ≡ 6 → IfSome held (λ text. (report : List ℕ) × IsReportOf window text report)
+pub replays_complete : ReplaysAreComplete
+replays_complete a files out err status plan replay told have replayed bound quiet =
+    complete a files out err status plan replay told have replayed (λ e. e ∙ of_plan_report plan replayed bound) quiet
 
-one_script : (r : Result Script ScriptFail) (a b : Script) → r ≡ Ok a → r ≡ Ok b → a ≡ b
-one_script r a b ea eb = let e : ◌≡◌ {A = Result Script ScriptFail} (Ok a) (Ok b) = sym ea ∙ eb in cc
+pub scripts_complete : ScriptsAreComplete
+scripts_complete a files out err status plan replay alone told have replayed quiet =
+    complete a files out err status plan replay told have replayed (λ e. replayed_status plan status replayed e (replay.never_too_large alone)) quiet
 
-no_script : (r : Result Script ScriptFail) (a : Script) (fail : ScriptFail) → r ≡ Ok a → r ≡ Err fail → ⊥
-no_script r a fail ea eb = let e : ◌≡◌ {A = Result Script ScriptFail} (Ok a) (Err fail) = sym ea ∙ eb in cc
+-- ---- the command
 
-both : (b : Bool) → b ≡ true → b ≡ false → ⊥
-both b t f = let e : true ≡ false = sym t ∙ f in cc
-
--- a plan is replayed or it isn't
-replayed_other : (window : ℕ) (text : List ℕ) (script : Script) → script_of text ≡ Ok script → is_replayed (plan_of script window 1) ≡ true → IsOtherText window text → ⊥
-replayed_other window text script read replayed other =
-    let same = one_script (script_of text) script other.script read other.read in
-    both (is_replayed (plan_of script window 1)) replayed (ap (λ (s : Script). is_replayed (plan_of s window 1)) same ∙ other.other)
-
--- a plan that is too large has no short inline run
-short_large : (plan other : Plan) (run : Run) → other ≡ plan → IsInlineRun plan run → length (journal_at run.journals 0) ≤ most_lines → IsTooLarge other → ⊥
-short_large plan other run same inline short large = let long = (subst IsTooLarge same large) run inline in omega (arith, long, short)
-
-report_large : (window : ℕ) (text report : List ℕ) → IsReportOf window text report → IsTooLargeText window text → ⊥
-report_large window text report is large =
-    short_large (plan_of is.script window 1) (plan_of large.script window 1) is.run (ap (λ (s : Script). plan_of s window 1) (one_script (script_of text) large.script is.script large.read is.read)) is.inline is.short large.large
-
--- a script that is too long is answered so
-pub too_long_always : (window : ℕ) (held : Option (List ℕ)) (status : ℕ) → IsOneOf (0 ∷ 1 ∷ 3 ∷ 5 ∷ 6 ∷ 7 ∷ 8 ∷ 9 ∷ []) status → Tells window held status → IfSome held (λ text. script_limit < length text → IsOneOf (8 ∷ 3 ∷ 1 ∷ []) status)
-too_long_always window None status h t = tt
-too_long_always window (Some text) status h t =
-    by_status (λ n. Tells window (Some text) n → script_limit < length text → IsOneOf (8 ∷ 3 ∷ 1 ∷ []) n) status h
-    (λ t long. absurd (let short = t.within.0 refl in omega arith))
-    (λ t long. refl)
-    (λ t long. refl)
-    (λ t long. absurd (let short = (t.refused refl).2 in omega arith))
-    (λ t long. absurd (let short = t.within.1 refl in omega arith))
-    (λ t long. absurd (t.never_too_large refl))
-    (λ t long. refl)
-    (λ t long. absurd (let short = (t.not_built refl).0 in omega arith))
-    t
-
--- a refused script is answered so
-pub refused_always : (window : ℕ) (held : Option (List ℕ)) (status : ℕ) → IsOneOf (0 ∷ 1 ∷ 3 ∷ 5 ∷ 6 ∷ 7 ∷ 8 ∷ 9 ∷ []) status → Tells window held status
-    → IfSome held (λ text. (line : ℕ) (why : ScriptWhy) → length text ≤ script_limit → IsRefusedText line why text → IsOneOf (5 ∷ 3 ∷ 1 ∷ []) status)
-refused_always window None status h t = tt
-refused_always window (Some text) status h t =
-    by_status (λ n. Tells window (Some text) n → (line : ℕ) (why : ScriptWhy) → length text ≤ script_limit → IsRefusedText line why text → IsOneOf (5 ∷ 3 ∷ 1 ∷ []) n) status h
-    (λ t line why short refusal. absurd (let is = (t.done refl).1 in no_script (script_of text) is.script _ is.read refusal))
-    (λ t line why short refusal. refl)
-    (λ t line why short refusal. refl)
-    (λ t line why short refusal. refl)
-    (λ t line why short refusal. absurd (let is = (t.part refl).1 in no_script (script_of text) is.script _ is.read refusal))
-    (λ t line why short refusal. absurd (t.never_too_large refl))
-    (λ t line why short refusal. absurd (let long = t.too_long refl in omega arith))
-    (λ t line why short refusal. absurd (let other = (t.not_built refl).1 in no_script (script_of text) other.script _ other.read refusal))
-    t
-
--- a script whose plan isn't replayed is answered so
-pub not_built_always : (window : ℕ) (held : Option (List ℕ)) (status : ℕ) → IsOneOf (0 ∷ 1 ∷ 3 ∷ 5 ∷ 6 ∷ 7 ∷ 8 ∷ 9 ∷ []) status → Tells window held status
-    → IfSome held (λ text. length text ≤ script_limit → IsOtherText window text → IsOneOf (9 ∷ 3 ∷ 1 ∷ []) status)
-not_built_always window None status h t = tt
-not_built_always window (Some text) status h t =
-    by_status (λ n. Tells window (Some text) n → length text ≤ script_limit → IsOtherText window text → IsOneOf (9 ∷ 3 ∷ 1 ∷ []) n) status h
-    (λ t short other. absurd (let is = (t.done refl).1 in replayed_other window text is.script is.read is.replayed other))
-    (λ t short other. refl)
-    (λ t short other. refl)
-    (λ t short other. absurd (no_script (script_of text) other.script _ other.read (t.refused refl).3))
-    (λ t short other. absurd (let is = (t.part refl).1 in replayed_other window text is.script is.read is.replayed other))
-    (λ t short other. absurd (t.never_too_large refl))
-    (λ t short other. absurd (let long = t.too_long refl in omega arith))
-    (λ t short other. refl)
-    t
-
--- a script whose journal is too large is answered so
-pub too_large_always : (window : ℕ) (held : Option (List ℕ)) (status : ℕ) → IsOneOf (0 ∷ 1 ∷ 3 ∷ 5 ∷ 6 ∷ 7 ∷ 8 ∷ 9 ∷ []) status → Tells window held status
-    → IfSome held (λ text. length text ≤ script_limit → IsTooLargeText window text → IsOneOf (7 ∷ 3 ∷ 1 ∷ []) status)
-too_large_always window None status h t = tt
-too_large_always window (Some text) status h t =
-    by_status (λ n. Tells window (Some text) n → length text ≤ script_limit → IsTooLargeText window text → IsOneOf (7 ∷ 3 ∷ 1 ∷ []) n) status h
-    (λ t short large. absurd (let is = t.done refl in report_large window text is.0 is.1 large))
-    (λ t short large. refl)
-    (λ t short large. refl)
-    (λ t short large. absurd (no_script (script_of text) large.script _ large.read (t.refused refl).3))
-    (λ t short large. absurd (let is = t.part refl in report_large window text is.0 is.1 large))
-    (λ t short large. refl)
-    (λ t short large. absurd (let long = t.too_long refl in omega arith))
-    (λ t short large. absurd (replayed_other window text large.script large.read large.replayed (t.not_built refl).1))
-    t
-
--- where nothing stands in the way, the report is written
-pub complete : (window : ℕ) (held : Option (List ℕ)) (name_failed sink_failed : Type 0) (status : ℕ) → IsOneOf (0 ∷ 1 ∷ 3 ∷ 5 ∷ 6 ∷ 7 ∷ 8 ∷ 9 ∷ []) status → Tells window held status → (status ≡ 3 → name_failed) → (status ≡ 6 → sink_failed)
-    → IfSome held (λ text. length text ≤ script_limit → IsReplayedText window text → (name_failed → ⊥) → (sink_failed → ⊥) → IsOneOf (0 ∷ 1 ∷ []) status)
-complete window None N S status h t n s = tt
-complete window (Some text) N S status h t n s =
-    by_status (λ k. Tells window (Some text) k → (k ≡ 3 → N) → (k ≡ 6 → S) → length text ≤ script_limit → IsReplayedText window text → (N → ⊥) → (S → ⊥) → IsOneOf (0 ∷ 1 ∷ []) k) status h
-    (λ t n s short plain not_n not_s. refl)
-    (λ t n s short plain not_n not_s. refl)
-    (λ t n s short plain not_n not_s. absurd (not_n (n refl)))
-    (λ t n s short plain not_n not_s. absurd (no_script (script_of text) plain.script _ plain.read (t.refused refl).3))
-    (λ t n s short plain not_n not_s. absurd (not_s (s refl)))
-    (λ t n s short plain not_n not_s. absurd (t.never_too_large refl))
-    (λ t n s short plain not_n not_s. absurd (let long = t.too_long refl in omega arith))
-    (λ t n s short plain not_n not_s. absurd (replayed_other window text plain.script plain.read plain.replayed (t.not_built refl).1))
-    t n s
-
-made_by : (window : ℕ) (held old new : Option (List ℕ)) → IfSome held (WritesReport window old new) → IfSome held (λ text. (report : List ℕ) × IsReportOf window text report)
-made_by window None old new w = tt
-made_by window (Some text) old new w = (w.report, w.is)
-
-made_partly : (window : ℕ) (held old new : Option (List ℕ)) → IfSome held (WritesPart window old new) → IfSome held (λ text. (report : List ℕ) × IsReportOf window text report)
-made_partly window None old new w = tt
-made_partly window (Some text) old new w = (w.report, w.is)
-
-told_refusal : (held : Option (List ℕ)) (line : ℕ) (why : ScriptWhy) → IfSome held (λ text. (length text ≤ script_limit) × IsRefusedText line why text)
-    → IfSome held (λ text. (line : ℕ) × (why : ScriptWhy) × (length text ≤ script_limit) × IsRefusedText line why text)
-told_refusal None line why h = tt
-told_refusal (Some text) line why h = (line, why, h.0, h.1)
-
--- the clauses of each status make up a replay
-pub replay_by : (name : List ℕ) (window : ℕ) (o : Outside) (status : ℕ)
-    → IsOneOf (0 ∷ 1 ∷ 3 ∷ 5 ∷ 6 ∷ 7 ∷ 8 ∷ 9 ∷ []) status
-    → (status ≡ 0 → IfSome (o.held name) (WritesReport window o.out.taken_before o.out.taken_after))
-    → (status ≡ 0 → IfSome (o.held name) (λ text. length text ≤ script_limit))
-    → (status ≡ 0 → IsUntouched o.err)
-    → (status ≡ 3 → NameFailed o name)
-    → (status ≡ 5 → IsRefusal name (o.held name) o.err)
-    → (status ≡ 6 → SinkFailed o.out)
-    → (status ≡ 6 → IfSome (o.held name) (WritesPart window o.out.taken_before o.out.taken_after))
-    → (status ≡ 6 → IfSome (o.held name) (λ text. length text ≤ script_limit))
-    → (status ≡ 8 → IfSome (o.held name) (λ text. script_limit < length text))
-    → (status ≡ 7 → ⊥)
-    → (status ≡ 9 → IfSome (o.held name) (λ text. (length text ≤ script_limit) × IsOtherText window text))
-    → (status ≢ 0 → status ≢ 6 → IsUntouched o.out)
-    → (status ≢ 0 → status ≢ 5 → SinkSays o.err (line_for status name))
-    → IsReplay name window o status
-replay_by name window o status answer done done_within quiet cannot_read refused cannot_write part part_within too_long never_too_large not_built untouched said =
-    let t : Tells window (o.held name) status = record {
-      within = (done_within, part_within);
-      too_long = too_long;
-      refused = λ e. let r = refused e in told_refusal (o.held name) r.line r.why r.refused;
-      never_too_large = never_too_large;
-      not_built = not_built;
-      done = λ e. made_by window (o.held name) o.out.taken_before o.out.taken_after (done e);
-      part = λ e. made_partly window (o.held name) o.out.taken_before o.out.taken_after (part e);
-    } in
-    record {
-      answer = answer;
-      done = done;
-      quiet = quiet;
-      cannot_read = cannot_read;
-      refused = refused;
-      refused_always = refused_always window (o.held name) status answer t;
-      cannot_write = cannot_write;
-      part = part;
-      too_large = λ e. absurd (never_too_large e);
-      too_large_always = too_large_always window (o.held name) status answer t;
-      too_long = too_long;
-      too_long_always = too_long_always window (o.held name) status answer t;
-      not_built = not_built;
-      not_built_always = not_built_always window (o.held name) status answer t;
-      untouched = untouched;
-      said = said;
-      complete = complete window (o.held name) (NameFailed o name) (SinkFailed o.out) status answer t cannot_read cannot_write;
-    }
-
--- want of memory before anything was read
-pub replay_without_memory : (name : List ℕ) (window : ℕ) (o : Outside) → IsUntouched o.out → SinkSays o.err (line_for 1 name) → IsReplay name window o 1
-replay_without_memory name window o untouched said =
-    replay_by name window o 1 refl
-    (λ e. absurd cc) (λ e. absurd cc) (λ e. absurd cc) (λ e. absurd cc) (λ e. absurd cc) (λ e. absurd cc) (λ e. absurd cc) (λ e. absurd cc) (λ e. absurd cc) (λ e. cc) (λ e. absurd cc)
-    (λ e f. untouched) (λ e f. said)
-
-line_for-memory : (a b : List ℕ) → line_for 1 a ≡ line_for 1 b
-unfolding line_of
-line_for-memory a b = refl
-
-pub command_without_memory : (words : List (List ℕ)) (o : Outside) → IsUntouched o.out → SinkSays o.err (line_for 1 []) → IsCommand words o 1
-command_without_memory words o untouched said = record {
+pub command_without_memory : (words : List (List ℕ)) (files : FilesCall) (out err : SinkCall) → IsUntouched out → SinkSays err memory_line → IsCommand words files out err 1
+command_without_memory words files out err untouched said = record {
   usage = λ e. absurd cc;
   usage_always = λ none. refl;
   usage_said = λ e. absurd cc;
   usage_untouched = λ none. untouched;
   usage_memory = λ none e. said;
-  replays = λ a e. replay_without_memory a.script a.window o untouched (subst (λ (line : List ℕ). SinkSays o.err line) (line_for-memory [] a.script) said);
+  replays = λ a e. memory_replay a files out err untouched said;
 }
 
-pub command_refused : (words : List (List ℕ)) (o : Outside) → asked words ≡ None → IsUntouched o.out → SinkSays o.err usage_line → IsCommand words o 2
-command_refused words o none untouched said = record {
+pub command_refused : (words : List (List ℕ)) (files : FilesCall) (out err : SinkCall) → asked words ≡ None → IsUntouched out → SinkSays err usage_line → IsCommand words files out err 2
+command_refused words files out err none untouched said = record {
   usage = λ e. none;
   usage_always = λ none. refl;
   usage_said = λ e. said;
@@ -247,12 +204,18 @@ command_refused words o none untouched said = record {
   replays = λ a e. absurd (let both : ◌≡◌ {A = Option Asked} None (Some a) = sym none ∙ e in cc);
 }
 
-pub command_replays : (words : List (List ℕ)) (a : Asked) (o : Outside) (status : ℕ) → asked words ≡ Some a → IsReplay a.script a.window o status → IsCommand words o status
-command_replays words a o status e replay = record {
-  usage = λ two. absurd (let h = subst (IsOneOf (0 ∷ 1 ∷ 3 ∷ 5 ∷ 6 ∷ 7 ∷ 8 ∷ 9 ∷ [])) two replay.answer in cc);
+-- a replay never has the status of other words
+replay_not_usage : (a : Asked) (files : FilesCall) (out err : SinkCall) (status : ℕ) → IsReplay a files out err status → status ≡ 2 → ⊥
+replay_not_usage a files out err status replay two =
+    let d = replay.decided (λ e. let both : 2 ≡ 1 = sym two ∙ e in cc) (λ e. let both : 2 ≡ 3 = sym two ∙ e in cc) (λ e. let both : 2 ≡ 6 = sym two ∙ e in cc) in
+    not_usage d.verdict (sym d.answered ∙ two)
+
+pub command_replays : (words : List (List ℕ)) (a : Asked) (files : FilesCall) (out err : SinkCall) (status : ℕ) → asked words ≡ Some a → IsReplay a files out err status → IsCommand words files out err status
+command_replays words a files out err status e replay = record {
+  usage = λ two. absurd (replay_not_usage a files out err status replay two);
   usage_always = λ none. absurd (let both : ◌≡◌ {A = Option Asked} None (Some a) = sym none ∙ e in cc);
-  usage_said = λ two. absurd (let h = subst (IsOneOf (0 ∷ 1 ∷ 3 ∷ 5 ∷ 6 ∷ 7 ∷ 8 ∷ 9 ∷ [])) two replay.answer in cc);
+  usage_said = λ two. absurd (replay_not_usage a files out err status replay two);
   usage_untouched = λ none. absurd (let both : ◌≡◌ {A = Option Asked} None (Some a) = sym none ∙ e in cc);
   usage_memory = λ none one. absurd (let both : ◌≡◌ {A = Option Asked} None (Some a) = sym none ∙ e in cc);
-  replays = λ b eb. let same : a ≡ b = (let both : ◌≡◌ {A = Option Asked} (Some a) (Some b) = sym e ∙ eb in cc) in subst (λ (x : Asked). IsReplay x.script x.window o status) same replay;
+  replays = λ b eb. let same : a ≡ b = (let both : ◌≡◌ {A = Option Asked} (Some a) (Some b) = sym e ∙ eb in cc) in subst (λ (x : Asked). IsReplay x files out err status) same replay;
 }

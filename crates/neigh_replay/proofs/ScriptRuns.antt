@@ -20,9 +20,9 @@ use Rattle.neigh_run.specs.Merged.{Entered, control_ops, is_sending}
 use Rattle.neigh_run.specs.Plan.{IsWithinLimits, AreLists, send_at, plan_of}
 use Rattle.neigh_run.specs.Report.{sent_count, fast_count, dropped_count, waiting_count}
 use Rattle.neigh_run.proofs.InlineFates.{inline_fates}
-use Rattle.neigh_replay.specs.Inline.{most_lines, is_given_op, has_given_ops}
-use Rattle.neigh_replay.proofs.ScriptLimits.{one_bucket}
-use Rattle.neigh_replay.proofs.ScriptBounds.{script_params, script_upto, script_given}
+use Rattle.neigh_plan.specs.Inline.{most_lines, is_given_op, has_given_ops}
+use Rattle.neigh_plan.proofs.ScriptLimits.{one_bucket}
+use Rattle.neigh_plan.proofs.ScriptBounds.{script_params, script_upto, script_given}
 use Rattle.neigh_replay.proofs.Steps.{HasText, run_has_text}
 
 pub has_text : (script : Script) (window : ℕ) (plan : Plan) (run : Run) → plan ≡ plan_of script window 1 → limits.IsWithinLimits script → IsInlineRun plan run → length (journal_at run.journals 0) ≤ most_lines → HasText run

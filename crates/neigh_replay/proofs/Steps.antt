@@ -13,8 +13,8 @@ use Rattle.nb_journal.proofs.Decides.{and_both}
 use Rattle.nb_journal.proofs.Stepped.{lawful_stepped}
 use Rattle.neigh_run.specs.Inline.{own_lines, ends_own, entered_line, journal_at, IsInlineJournal, AreInlineJournals, IsInlineRun}
 use Rattle.neigh_run.specs.declared.run.Run.{Run}
-use Rattle.neigh_replay.specs.Inline.{most_lines, last_item_at, has_given_ops}
-use Rattle.neigh_replay.proofs.Orders.{Each}
+use Rattle.neigh_plan.specs.Inline.{most_lines, last_item_at, has_given_ops}
+use Rattle.neigh_plan.proofs.Orders.{Each}
 use Rattle.neigh_replay.proofs.Placed.{operations}
 use Rattle.neigh_replay.proofs.Tasks.{IsUpTo, IsTaken, early_merged, taken_merged}
 use Rattle.neigh_replay.proofs.InlineRuns.{merged_for-one}

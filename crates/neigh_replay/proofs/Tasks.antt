@@ -19,10 +19,10 @@ use Rattle.nb_journal.specs.Accounts.{line_bound}
 use Rattle.neigh_run.specs.Merged.{Entered, control_ops, sender_ops, senders_ops, merged}
 use Rattle.neigh_run.specs.Plan.{RisesFrom, control_at, send_at}
 use Rattle.neigh_replay.specs.declared.fail.ReplayFail.{ReplayFail}
-use Rattle.neigh_replay.specs.Inline.{most_lines, greatest_of, last_item_at, is_given_op, has_given_ops, plan_bound}
-use Rattle.neigh_replay.specs.Merging.{line_of, lines_of, line_at}
+use Rattle.neigh_plan.specs.Inline.{most_lines, greatest_of, last_item_at, is_given_op, has_given_ops, plan_bound}
+use Rattle.neigh_plan.specs.Merging.{line_of, lines_of, line_at}
 use Rattle.neigh_replay.specs.Answered.{IsTask}
-use Rattle.neigh_replay.proofs.Orders.{Each, each_append, each_all}
+use Rattle.neigh_plan.proofs.Orders.{Each, each_append, each_all}
 
 -- ---- moments
 

@@ -3,7 +3,7 @@ use Rattle.std.proofs.Common.{[], refl}
 use Rattle.nb_base.specs.declared.params.Params.{Params}
 use Rattle.nb_base.specs.Params.{InRange}
 use Rattle.nb_journal.proofs.Appends.{lawful-nil}
-use Rattle.neigh_replay.specs.Inline.{most_lines}
+use Rattle.neigh_plan.specs.Inline.{most_lines}
 use Rattle.neigh_replay.specs.Answered.{HasEntered}
 
 pub entered_none : (p : Params) → InRange p → HasEntered [] (record { params = p; limit = most_lines; lines = []; clock = 0 }) []

@@ -19,7 +19,7 @@ use Rattle.nb_bucket.specs.Bucket.{Journal}
 use Rattle.neigh_run.specs.declared.run.Run.{Run}
 use Rattle.neigh_run.specs.Inline.{entered_line, own_lines, ends_own}
 use Rattle.neigh_replay.specs.declared.answers.Answer.{Answer}
-use Rattle.neigh_replay.specs.Inline.{most_lines}
+use Rattle.neigh_plan.specs.Inline.{most_lines}
 
 -- ---- answers
 

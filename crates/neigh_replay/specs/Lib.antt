@@ -1,7 +1,5 @@
-pub mod Window
-pub mod Settings
-pub mod Merging
-pub mod Inline
 pub mod Answered
+pub mod Verdict
 pub mod Status
 pub mod Replay
+pub mod Failures

@@ -1,77 +1,19 @@
--- What a replay of a script does.
-use Rattle.std.specs.Prelude.{◌≡◌, ◌≢◌, ℕ, ◌<◌, ◌≤◌, true, false, List, [], ◌∷◌, take, length, Option, Some, None, Ok, Err, IfSome}
+-- What a call of the command does.
+use Rattle.std.specs.Prelude.{◌≡◌, ◌≢◌, ℕ, ◌<◌, true, List, [], ◌∷◌, take, Option, Some, None, slice_get}
 use Rattle.std.specs.Io.KnownBytes.{Appends}
+use Rattle.nb_base.specs.declared.plan.Mode.TheVariants as mode
+use Rattle.nb_base.specs.declared.plan.Plan.{Plan}
 use Rattle.nb_io.specs.Faults.{Rose}
-use Rattle.neigh_script.specs.declared.script.Script.{Script}
-use Rattle.neigh_script.specs.declared.why.ScriptWhy.{ScriptWhy}
-use Rattle.neigh_script.specs.declared.why.ScriptFail.TheVariants as script_fail
-use Rattle.neigh_script.specs.Lines.{script_of}
-use Rattle.neigh_run.specs.declared.run.Run.{Run}
-use Rattle.neigh_run.specs.Plan.{plan_of, is_replayed}
-use Rattle.neigh_run.specs.Report.{report_text}
-use Rattle.neigh_run.specs.Inline.{IsInlineRun, IsTooLarge, journal_at}
-use Rattle.neigh_replay.specs.declared.replay.Failure.TheVariants as failure
-use Rattle.neigh_replay.specs.Settings.{Asked, asked}
-use Rattle.neigh_replay.specs.Inline.{most_lines}
-use Rattle.neigh_replay.specs.Status.{IsOneOf, Says, line_of, line_for, usage_line}
+use Rattle.neigh_run.specs.Plan.{is_replayed}
+use Rattle.neigh_plan.specs.Inline.{most_lines, plan_bound}
+use Rattle.neigh_words.specs.declared.options.Settings.{Settings}
+use Rattle.neigh_words.specs.Settings.{Asked, asked, asked_by}
+use Rattle.neigh_replay.specs.declared.program.NoWords.{NoWords}
+use Rattle.neigh_replay.specs.declared.program.NoWords.TheVariants.{NotText, Memory}
+use Rattle.neigh_replay.specs.Verdict.{Verdict, Report, Held, AreTold, HavePlan, Gives, names_of, status_of, line_of, instead_of}
+use Rattle.neigh_replay.specs.Status.{IsOneOf, Says, memory_line, usage_line, read_line, write_line}
 
--- the most bytes of a script: 8 MiB
-abbrev pub script_limit : ℕ
-script_limit = 8388608
-
--- a text is a script whose plan, with this window and one bucket, is replayed
-pub record IsReplayedText (window : ℕ) (text : List ℕ) : Type 0 where
-  pub script : Script
-  pub read : script_of text ≡ Ok script
-  pub replayed : is_replayed (plan_of script window 1) ≡ true
-
--- a text is a script whose plan isn't replayed
-pub record IsOtherText (window : ℕ) (text : List ℕ) : Type 0 where
-  pub script : Script
-  pub read : script_of text ≡ Ok script
-  pub other : is_replayed (plan_of script window 1) ≡ false
-
--- a text is a script whose plan is replayed, and whose every inline run has a journal of more than 2^22 lines
-pub record IsTooLargeText (window : ℕ) (text : List ℕ) : Type 0 where
-  pub script : Script
-  pub read : script_of text ≡ Ok script
-  pub replayed : is_replayed (plan_of script window 1) ≡ true
-  pub large : IsTooLarge (plan_of script window 1)
-
--- a text is refused as a script at this line, for this reason
-abbrev pub IsRefusedText : ℕ → ScriptWhy → List ℕ → Type 0
-IsRefusedText line why text = script_of text ≡ Err (script_fail.Refused line why)
-
--- a text is the report of the inline run of the script's plan, with this window and one bucket, whose journal has at most 2^22 lines
-pub record IsReportOf (window : ℕ) (text report : List ℕ) : Type 0 where
-  pub script : Script
-  pub run : Run
-  pub read : script_of text ≡ Ok script
-  pub replayed : is_replayed (plan_of script window 1) ≡ true
-  pub inline : IsInlineRun (plan_of script window 1) run
-  pub short : length (journal_at run.journals 0) ≤ most_lines
-  pub spelled : report ≡ report_text run
-
--- a text is the report of a script, whose plan is replayed
-pub record IsScriptsReport (window : ℕ) (script : Script) (report : List ℕ) : Type 0 where
-  pub run : Run
-  pub replayed : is_replayed (plan_of script window 1) ≡ true
-  pub inline : IsInlineRun (plan_of script window 1) run
-  pub short : length (journal_at run.journals 0) ≤ most_lines
-  pub spelled : report ≡ report_text run
-
--- the report of the script was written, and nothing else
-pub record WritesReport (window : ℕ) (old new : Option (List ℕ)) (text : List ℕ) : Type 0 where
-  pub report : List ℕ
-  pub is : IsReportOf window text report
-  pub written : Appends old new report
-
--- a part of it, from the front
-pub record WritesPart (window : ℕ) (old new : Option (List ℕ)) (text : List ℕ) : Type 0 where
-  pub report : List ℕ
-  pub is : IsReportOf window text report
-  pub count : ℕ
-  pub written : Appends old new (take count report)
+-- ---- what a call meets outside
 
 -- what a sink had taken and how often it had failed, before a call and after it
 pub record SinkCall : Type 0 where
@@ -83,20 +25,22 @@ pub record SinkCall : Type 0 where
 abbrev pub sink_call : Option (List ℕ) → Option (List ℕ) → ℕ → ℕ → SinkCall
 sink_call before after faults_before faults_after = record { taken_before = before; taken_after = after; faults_before = faults_before; faults_after = faults_after }
 
--- what a call met outside: what names hold where that is told, how often each had failed before and after, and the two sinks
-pub record Outside : Type 0 where
-  pub held : List ℕ → Option (List ℕ)
+-- what names hold where that is told, and how often each had failed before a call and after it
+pub record FilesCall : Type 0 where
+  pub held : Held
   pub faults_before : List ℕ → ℕ
   pub faults_after : List ℕ → ℕ
-  pub out : SinkCall
-  pub err : SinkCall
 
-abbrev pub outside : (List ℕ → Option (List ℕ)) → (List ℕ → ℕ) → (List ℕ → ℕ) → SinkCall → SinkCall → Outside
-outside held before after out err = record { held = held; faults_before = before; faults_after = after; out = out; err = err }
+abbrev pub files_call : Held → (List ℕ → ℕ) → (List ℕ → ℕ) → FilesCall
+files_call held before after = record { held = held; faults_before = before; faults_after = after }
 
 -- a sink took a line, or a part of it where its count rose
 abbrev pub SinkSays : SinkCall → List ℕ → Type 0
 SinkSays sink line = Says sink.taken_before sink.taken_after sink.faults_before sink.faults_after line
+
+-- a sink took these bytes, and nothing else
+abbrev pub SinkTakes : SinkCall → List ℕ → Type 0
+SinkTakes sink bytes = Appends sink.taken_before sink.taken_after bytes
 
 abbrev pub IsUntouched : SinkCall → Type 0
 IsUntouched sink = sink.taken_after ≡ sink.taken_before
@@ -105,52 +49,112 @@ IsUntouched sink = sink.taken_after ≡ sink.taken_before
 abbrev pub SinkFailed : SinkCall → Type 0
 SinkFailed sink = Rose sink.faults_before sink.faults_after
 
-abbrev pub NameFailed : Outside → List ℕ → Type 0
-NameFailed o name = Rose (o.faults_before name) (o.faults_after name)
+abbrev pub NameFailed : FilesCall → List ℕ → Type 0
+NameFailed files name = Rose (files.faults_before name) (files.faults_after name)
 
--- the sink is told the line and the reason of a refusal, which is the text's
-pub record IsRefusal (name : List ℕ) (held : Option (List ℕ)) (err : SinkCall) : Type 0 where
-  pub line : ℕ
-  pub why : ScriptWhy
-  pub refused : IfSome held (λ text. (length text ≤ script_limit) × IsRefusedText line why text)
-  pub said : SinkSays err (line_of (failure.Refused line why) name)
+-- ---- a replay
 
--- a replay of the script of this name, with this window, that ended with the status
-pub record IsReplay (name : List ℕ) (window : ℕ) (o : Outside) (status : ℕ) : Type 0 where
-  pub answer : IsOneOf (0 ∷ 1 ∷ 3 ∷ 5 ∷ 6 ∷ 7 ∷ 8 ∷ 9 ∷ []) status
-  -- 0: exactly the report of the inline run of the script's plan was written, and nothing was said
-  pub done : status ≡ 0 → IfSome (o.held name) (WritesReport window o.out.taken_before o.out.taken_after)
-  pub quiet : status ≡ 0 → IsUntouched o.err
-  -- 3: only where reading the script failed
-  pub cannot_read : status ≡ 3 → NameFailed o name
-  -- 5: exactly where the script is refused, which is said, unless reading it failed, it is too long, or no memory was left
-  pub refused : status ≡ 5 → IsRefusal name (o.held name) o.err
-  pub refused_always : IfSome (o.held name) (λ text. (line : ℕ) (why : ScriptWhy) → length text ≤ script_limit → IsRefusedText line why text → IsOneOf (5 ∷ 3 ∷ 1 ∷ []) status)
-  -- 6: only where writing the report failed, of which a part from the front was written
-  pub cannot_write : status ≡ 6 → SinkFailed o.out
-  pub part : status ≡ 6 → IfSome (o.held name) (WritesPart window o.out.taken_before o.out.taken_after)
-  -- 7: exactly where the script's plan is replayed and its every inline run has a journal of more than 2^22 lines, with the same exceptions
-  pub too_large : status ≡ 7 → IfSome (o.held name) (λ text. (length text ≤ script_limit) × IsTooLargeText window text)
-  pub too_large_always : IfSome (o.held name) (λ text. length text ≤ script_limit → IsTooLargeText window text → IsOneOf (7 ∷ 3 ∷ 1 ∷ []) status)
-  -- 8: exactly where the script is too long, unless reading it failed or no memory was left
-  pub too_long : status ≡ 8 → IfSome (o.held name) (λ text. script_limit < length text)
-  pub too_long_always : IfSome (o.held name) (λ text. script_limit < length text → IsOneOf (8 ∷ 3 ∷ 1 ∷ []) status)
-  -- 9: exactly where the script's plan isn't replayed, with the same exceptions
-  pub not_built : status ≡ 9 → IfSome (o.held name) (λ text. (length text ≤ script_limit) × IsOtherText window text)
-  pub not_built_always : IfSome (o.held name) (λ text. length text ≤ script_limit → IsOtherText window text → IsOneOf (9 ∷ 3 ∷ 1 ∷ []) status)
-  -- no other status writes a report, and each failure says its line
-  pub untouched : status ≢ 0 → status ≢ 6 → IsUntouched o.out
-  pub said : status ≢ 0 → status ≢ 5 → SinkSays o.err (line_for status name)
-  -- where the script is within its limit, its plan is replayed and nothing outside fails, the report is written, unless no memory is left
-  pub complete : IfSome (o.held name) (λ text. length text ≤ script_limit → IsReplayedText window text → (NameFailed o name → ⊥) → (SinkFailed o.out → ⊥) → IsOneOf (0 ∷ 1 ∷ []) status)
+-- the files give this verdict, where both are told
+abbrev pub GivesTold : Asked → FilesCall → Verdict → Type 0
+GivesTold a files verdict = AreTold a files.held → Gives a files.held verdict
 
--- a call of the command with these words that ended with the status
-pub record IsCommand (words : List (List ℕ)) (o : Outside) (status : ℕ) : Type 0 where
+-- a verdict is shown: a report by the output alone, every other by its line alone
+abbrev pub Shows : Verdict → SinkCall → SinkCall → Type 0
+Shows (Report text) out err = SinkTakes out text × IsUntouched err
+Shows verdict out err = IsUntouched out × SinkSays err (line_of verdict)
+
+-- the call ended with the verdict of the files
+pub record HasDecided (a : Asked) (files : FilesCall) (out err : SinkCall) (status : ℕ) : Type 0 where
+  pub verdict : Verdict
+  pub given : GivesTold a files verdict
+  pub answered : status ≡ status_of verdict
+  pub shown : Shows verdict out err
+
+-- a file that was asked for couldn't be read: its count rose, and the line names it
+pub record CannotRead (a : Asked) (files : FilesCall) (out err : SinkCall) : Type 0 where
+  pub place : ℕ
+  pub name : List ℕ
+  pub asked : slice_get (names_of a) place ≡ Some name
+  pub failed : NameFailed files name
+  pub untouched : IsUntouched out
+  pub said : SinkSays err (read_line name)
+
+-- the output couldn't take the report: its count rose, and a part of the report was taken, from the front
+pub record CannotWrite (a : Asked) (files : FilesCall) (out err : SinkCall) : Type 0 where
+  pub text : List ℕ
+  pub given : GivesTold a files (Report text)
+  pub failed : SinkFailed out
+  pub count : ℕ
+  pub part : SinkTakes out (take count text)
+  pub said : SinkSays err write_line
+
+-- no memory was left
+pub record HasNoMemory (out err : SinkCall) : Type 0 where
+  pub untouched : IsUntouched out
+  pub said : SinkSays err memory_line
+
+-- a replay of what is asked for ended with the status
+pub record IsReplay (a : Asked) (files : FilesCall) (out err : SinkCall) (status : ℕ) : Type 0 where
+  -- 1, 3 and 6: what failed outside
+  pub no_memory : status ≡ 1 → HasNoMemory out err
+  pub cannot_read : status ≡ 3 → CannotRead a files out err
+  pub cannot_write : status ≡ 6 → CannotWrite a files out err
+  -- every other status is that of the verdict of the files, which is shown
+  pub decided : status ≢ 1 → status ≢ 3 → status ≢ 6 → HasDecided a files out err status
+  -- 7 never comes for a script alone, which is too short for it
+  pub never_too_large : a.capture ≡ None → status ≢ 7
+  -- and where the files are told, the verdict that they give is the status, unless something failed outside
+  pub always : AreTold a files.held → (verdict : Verdict) → Gives a files.held verdict → IsOneOf (status_of verdict ∷ instead_of verdict) status
+
+-- ---- completeness
+
+-- nothing failed outside: the count of no file that was asked for rose, nor the output's
+pub record NothingFailed (a : Asked) (files : FilesCall) (out : SinkCall) : Type 0 where
+  pub reading : (place : ℕ) (name : List ℕ) → slice_get (names_of a) place ≡ Some name → NameFailed files name → ⊥
+  pub writing : SinkFailed out → ⊥
+
+-- where the files are told, read and not refused, their plan is replayed, its line bound is below 2^22 and nothing fails outside, the status is 0, or 1 for want of memory
+abbrev pub ReplaysAreComplete : Type 0
+ReplaysAreComplete =
+    (a : Asked) (files : FilesCall) (out err : SinkCall) (status : ℕ) (plan : Plan)
+    → IsReplay a files out err status
+    → AreTold a files.held
+    → HavePlan a files.held plan
+    → is_replayed plan ≡ true
+    → plan_bound plan < most_lines
+    → NothingFailed a files out
+    → IsOneOf (0 ∷ 1 ∷ []) status
+
+-- a script alone needs no condition on its line bound
+abbrev pub ScriptsAreComplete : Type 0
+ScriptsAreComplete =
+    (a : Asked) (files : FilesCall) (out err : SinkCall) (status : ℕ) (plan : Plan)
+    → IsReplay a files out err status
+    → a.capture ≡ None
+    → AreTold a files.held
+    → HavePlan a files.held plan
+    → is_replayed plan ≡ true
+    → NothingFailed a files out
+    → IsOneOf (0 ∷ 1 ∷ []) status
+
+-- ---- the command
+
+-- what settings ask for in the mode `inline`
+abbrev pub inline_by : Settings → Asked
+inline_by s = record (asked_by s) { mode = mode.Inline }
+
+-- a call of the command with these words ended with the status
+pub record IsCommand (words : List (List ℕ)) (files : FilesCall) (out err : SinkCall) (status : ℕ) : Type 0 where
   -- 2: exactly where the words aren't of the command, unless no memory was left before that was known
   pub usage : status ≡ 2 → asked words ≡ None
   pub usage_always : asked words ≡ None → IsOneOf (2 ∷ 1 ∷ []) status
-  pub usage_said : status ≡ 2 → SinkSays o.err usage_line
-  pub usage_untouched : asked words ≡ None → IsUntouched o.out
-  pub usage_memory : asked words ≡ None → status ≡ 1 → SinkSays o.err (line_for 1 [])
-  -- otherwise it is a replay of the script that the words name, with the window that they ask for
-  pub replays : (a : Asked) → asked words ≡ Some a → IsReplay a.script a.window o status
+  pub usage_said : status ≡ 2 → SinkSays err usage_line
+  pub usage_untouched : asked words ≡ None → IsUntouched out
+  pub usage_memory : asked words ≡ None → status ≡ 1 → SinkSays err memory_line
+  -- otherwise it is a replay of what they ask for
+  pub replays : (a : Asked) → asked words ≡ Some a → IsReplay a files out err status
+
+-- a program without words ended with the status: words that aren't text are none of the command's
+abbrev pub IsWithoutWords : NoWords → SinkCall → SinkCall → ℕ → Type 0
+IsWithoutWords NotText out err status = (status ≡ 2) × IsUntouched out × SinkSays err usage_line
+IsWithoutWords Memory out err status = (status ≡ 1) × IsUntouched out × SinkSays err memory_line

@@ -4,8 +4,8 @@ ghost use Rattle.std.specs.List.{AllByRecursion};
 ghost use Rattle.nb_base.specs.declared.line.Line.{Line};
 ghost use Rattle.nb_base.specs.Params.{InRange};
 ghost use Rattle.nb_journal.specs.Accounts.{line_bound};
-ghost use Rattle.neigh_replay.specs.Merging.{AreByMoment};
-ghost use Rattle.neigh_replay.specs.Inline.{most_lines};
+ghost use Rattle.neigh_plan.specs.Merging.{AreByMoment};
+ghost use Rattle.neigh_plan.specs.Inline.{most_lines};
 ghost use Rattle.neigh_replay.specs.Answered.{IsTask, HasEntered};
 
 use crate::fail::ReplayFail;

@@ -5,15 +5,15 @@ ghost use Rattle.nb_base.specs.Params.{InRange};
 ghost use Rattle.nud_machine.specs.Asked.{greatest};
 ghost use Rattle.neigh_run.specs.Inline.{IsInlineRun, journal_at};
 ghost use Rattle.neigh_run.specs.Plan.{IsWithinLimits};
-ghost use Rattle.neigh_replay.specs.Inline.{most_lines, last_item_at, has_given_ops, plan_bound};
+ghost use Rattle.neigh_plan.specs.Inline.{most_lines, last_item_at, has_given_ops, plan_bound};
 ghost use Rattle.neigh_replay.specs.Answered as by;
 ghost use Rattle.neigh_replay.specs.Answered.{IsNumbered};
 
 use crate::answers::{Answer, enter_all};
 use crate::fail::ReplayFail;
-use crate::merging::merged_lines;
 use nb_base::{HostLine, Items, Journals, Line, Log, Mode, OpId, Outcome, Placed, Plan, Why};
 use nb_bucket::Bucket;
+use neigh_plan::merged_lines;
 use neigh_run::Run;
 use std::alloc::{AllocError, Global};
 

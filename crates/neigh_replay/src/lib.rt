@@ -4,19 +4,13 @@
 mod answers;
 mod fail;
 mod inline;
-mod merging;
-mod options;
-mod planning;
+pub mod laws;
+mod program;
 mod replay;
-mod replayed;
 mod status;
 mod top;
-mod words_of_command;
 
 pub use fail::ReplayFail;
 pub use inline::replay_inline;
-pub use options::{Settings, SettingsFail};
-pub use planning::plan;
-pub use replayed::is_replayed;
+pub use program::{NoWords, answer, command_words};
 pub use top::{run, run_inline};
-pub use words_of_command::settings;

@@ -1,8 +1,9 @@
-//! The status of a run and its line on standard error.
-ghost use Rattle.std.specs.Prelude.{◌≡◌, ℕ, ◌++◌, ◌∷◌, [], List, IfOk, codes, decimal, string_bytes};
+//! The statuses of failures and their lines on standard error.
+ghost use Rattle.std.specs.Prelude.{◌≡◌, ◌≢◌, ◌++◌, ◌∷◌, [], IfOk, codes, decimal, string_bytes};
 ghost use Rattle.neigh_script.specs.Why.{number_of};
-ghost use Rattle.neigh_replay.specs.Status.{Says};
-ghost use Rattle.neigh_replay.specs.Status as status;
+ghost use Rattle.neigh_replay.specs.Status.{Says, memory_line, write_line, usage_line};
+ghost use Rattle.neigh_replay.specs.Verdict as verdict;
+ghost use Rattle.neigh_replay.specs.Failures.{line_for, status_for};
 
 use crate::replay::Failure;
 use nb_io::{Sink, WriteFault, write_all};
@@ -10,10 +11,25 @@ use neigh_script::ScriptWhy;
 use std::alloc::{AllocError, Global};
 use std::fmt::Write;
 
+/// The status of a failure.
+pub fn status_of(failure: Failure) -> u8
+    ensures { result ≡ status_for failure }
+{
+    match failure {
+        Failure::Memory => 1,
+        Failure::ReadFault => 3,
+        Failure::Refused { .. } => 5,
+        Failure::WriteFault => 6,
+        Failure::TooLarge => 7,
+        Failure::TooLong => 8,
+        Failure::NotBuilt => 9,
+    }
+}
+
 /// The line of a failure.
-#[tactic(auto, unfolding(crate::specs::Status::line_of))]
-pub fn line_of(alloc: Global, failure: Failure, script: &str) -> Result<String, AllocError>
-    ensures { IfOk result (λ line. string_bytes line ≡ status.line_of failure script.now) }
+#[tactic(auto, unfolding(crate::specs::Status::memory_line, crate::specs::Status::read_line, crate::specs::Status::write_line, crate::specs::Verdict::line_of))]
+fn line_of(alloc: Global, failure: Failure, script: &str) -> Result<String, AllocError>
+    ensures { IfOk result (λ line. string_bytes line ≡ line_for script.now failure) }
 {
     match failure {
         Failure::Memory => String::from_str(alloc, "neigh: no memory\n"),
@@ -51,5 +67,61 @@ pub fn say<E: Sink>(err: &mut E, line: &[u8])
     match write_all(err, line) {
         Ok(()) => {}
         Err(WriteFault) => {}
+    }
+}
+
+/// Says that no memory was left.
+#[tactic(auto, unfolding(crate::specs::Status::memory_line))]
+pub fn say_no_memory<E: Sink>(err: &mut E)
+    ensures { Says (E.taken err.old) (E.taken err.new) (E.faults err.old) (E.faults err.new) memory_line }
+{
+    say(err, b"neigh: no memory\n");
+}
+
+/// Says what the command is.
+#[tactic(auto, unfolding(crate::specs::Status::usage_line))]
+pub fn say_usage<E: Sink>(err: &mut E)
+    ensures { Says (E.taken err.old) (E.taken err.new) (E.faults err.old) (E.faults err.new) usage_line }
+{
+    say(
+        err,
+        b"neigh: usage: neigh --script FILE [--capture FILE] [--mode inline|threads] [--window MS] [--buckets N]\n",
+    );
+}
+
+/// Says that what is asked for isn't built.
+#[tactic(auto, unfolding(crate::specs::Verdict::line_of))]
+pub fn say_not_built<E: Sink>(err: &mut E)
+    ensures { Says (E.taken err.old) (E.taken err.new) (E.faults err.old) (E.faults err.new) (verdict.line_of verdict.NotBuilt) }
+{
+    say(err, b"neigh: not built\n");
+}
+
+#[tactic(auto, unfolding(crate::specs::Status::write_line))]
+fn say_write_fault<E: Sink>(err: &mut E)
+    ensures { Says (E.taken err.old) (E.taken err.new) (E.faults err.old) (E.faults err.new) write_line }
+{
+    say(err, b"neigh: cannot write\n");
+}
+
+/// Says why nothing or a part was written, and answers what it said. Where a line finds no memory, that is what is said; the line of a failed write needs none.
+pub fn tell<E: Sink>(alloc: Global, failure: Failure, script: &str, err: &mut E) -> Failure
+    ensures same { result ≢ Failure.Memory → result ≡ failure }
+    ensures kept { failure ≡ Failure.WriteFault → result ≡ Failure.WriteFault }
+    ensures said { Says (E.taken err.old) (E.taken err.new) (E.faults err.old) (E.faults err.new) (line_for script.now result) }
+{
+    if failure == Failure::WriteFault {
+        say_write_fault(err);
+        return Failure::WriteFault;
+    }
+    match line_of(alloc, failure, script) {
+        Ok(line) => {
+            say(err, line.as_bytes());
+            failure
+        }
+        Err(_) => {
+            say_no_memory(err);
+            Failure::Memory
+        }
     }
 }

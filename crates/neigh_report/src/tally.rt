@@ -1,9 +1,10 @@
 //! What became of a run's packets, without the run's text.
-ghost use Rattle.std.specs.Prelude.{◌≡◌, ◌<◌, ◌+◌, ◌^◌, ◌++◌, [], false, IfOk, OnOk};
+ghost use Rattle.std.specs.Prelude.{◌≡◌, ◌<◌, ◌≤◌, ◌+◌, ◌^◌, ◌++◌, [], false, length, IfOk, OnOk};
 ghost use Rattle.std.specs.List.{flat_map, list_any, AllByRecursion};
 ghost use Rattle.nb_base.specs.Params.{InRange};
 ghost use Rattle.nb_journal.specs.Evaluated.{IsShort, IsStepped};
 ghost use Rattle.neigh_run.specs.Inline.{IsInlineRun};
+ghost use Rattle.neigh_run.specs.Fates.{HasOneFateEach, CountFates};
 ghost use Rattle.neigh_run.specs.Merged.{packet_count, is_sending};
 ghost use Rattle.neigh_run.specs.Report as report_of;
 ghost use Rattle.neigh_report.specs.Left as left;
@@ -76,7 +77,8 @@ fn take_buckets(alloc: Global, plan: &Plan, journals: &[Journal]) -> Result<Behi
     Ok(behind)
 }
 
-/// What became of the packets of a run, which are fewer than 2^32; of an inline run whose participant 0 sends none they are together the packets of its plan.
+/// What became of the packets of a run, which are fewer than 2^32. Each packet of an inline run has exactly one fate: it went out at one line, or was dropped
+/// at one line by a cause, or waits at the end. Where participant 0 sends none, the numbers count these fates, and are together the packets of the plan.
 /// As for the text, the plan's parameters are in their ranges, each journal has fewer than 2^32 lines, and the machine can step over each of them.
 ///
 /// # Errors
@@ -92,6 +94,10 @@ pub fn fates(alloc: Global, run: &Run) -> Result<Fates, AllocError>
     ensures waiting { IfOk result (λ fates. fates.waiting ≡ report_of.waiting_count run.now) }
     ensures all { 0 < run.now.plan.buckets → list_any is_sending run.now.plan.control ≡ false → IsInlineRun run.now.plan run.now
         → IfOk result (λ fates. fates.sent + fates.fast + fates.dropped + fates.waiting ≡ packet_count run.now.plan) }
+    // Each packet of an inline run has exactly one fate, and the four numbers count these.
+    ensures one { 0 < run.now.plan.buckets → length run.now.plan.senders ≤ 16 → IsInlineRun run.now.plan run.now → IfOk result (λ _. HasOneFateEach run.now) }
+    ensures counted { 0 < run.now.plan.buckets → length run.now.plan.senders ≤ 16 → list_any is_sending run.now.plan.control ≡ false → IsInlineRun run.now.plan run.now
+        → IfOk result (λ fates. CountFates run.now fates.sent fates.fast fates.dropped fates.waiting) }
 {
     let behind = take_buckets(alloc, &run.plan, run.journals.as_slice())?;
     let sent = count_sent(&behind.acts);

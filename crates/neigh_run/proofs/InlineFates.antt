@@ -69,7 +69,7 @@ log-slow : (plan : Plan) (journals : List (List Line)) (p n : ℕ) (items : List
 log-slow plan journals p n [] = refl
 log-slow plan journals p n (item ∷ items) = log-slow plan journals p (n + 1) items
 
-logs-slow : (plan : Plan) (journals : List (List Line)) (p : ℕ) (senders : List (List SendItem)) → flat_map (filter is_fast) (logs_of plan journals p senders) ≡ []
+pub logs-slow : (plan : Plan) (journals : List (List Line)) (p : ℕ) (senders : List (List SendItem)) → flat_map (filter is_fast) (logs_of plan journals p senders) ≡ []
 logs-slow plan journals p [] = refl
 logs-slow plan journals p (items ∷ senders) =
     ap (λ (log : List Outcome). log ++ flat_map (filter is_fast) (logs_of plan journals (p + 1) senders)) (log-slow plan journals p 1 items) ∙ logs-slow plan journals (p + 1) senders

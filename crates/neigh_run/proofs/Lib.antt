@@ -8,3 +8,7 @@ pub mod MergedSends
 pub mod InlineFates
 pub mod KeysNamed
 pub mod Rows
+pub mod Counting
+pub mod Numbers
+pub mod PacketFates
+pub mod FateCounts

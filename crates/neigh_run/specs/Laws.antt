@@ -1,5 +1,5 @@
 -- The laws of runs and of their reports.
-use Rattle.std.specs.Prelude.{◌≡◌, ◌+◌, ◌<◌, true, false, List}
+use Rattle.std.specs.Prelude.{◌≡◌, ◌+◌, ◌<◌, ◌≤◌, true, false, List, length}
 use Rattle.std.specs.List.{list_any, AllByRecursion}
 use Rattle.nb_base.specs.declared.line.Line.{Line}
 use Rattle.nb_base.specs.declared.plan.Plan.{Plan}
@@ -9,6 +9,7 @@ use Rattle.text_codes.specs.Lines.{is_set_in, rows_of}
 use Rattle.neigh_run.specs.declared.run.Run.{Run}
 use Rattle.neigh_run.specs.Merged.{packet_count, is_sending}
 use Rattle.neigh_run.specs.Inline.{IsInlineRun}
+use Rattle.neigh_run.specs.Fates.{HasOneFateEach, CountFates}
 use Rattle.neigh_run.specs.Report.{lines_below, line_words, sent_count, fast_count, dropped_count, waiting_count, report, report_text}
 
 -- a plan has at most one inline run
@@ -44,3 +45,17 @@ FatesAddUpInline =
     → list_any is_sending plan.control ≡ false
     → IsInlineRun plan run
     → sent_count run + fast_count run + dropped_count run + waiting_count run ≡ packet_count plan
+
+-- each packet of a plan with at most 16 senders has exactly one fate in the plan's inline run
+abbrev pub EachPacketHasOneFate : Type 0
+EachPacketHasOneFate = (plan : Plan) (run : Run) → 0 < plan.buckets → length plan.senders ≤ 16 → IsInlineRun plan run → HasOneFateEach run
+
+-- and the four numbers of its report count these fates, where participant 0 sends no packet itself
+abbrev pub FatesAreCounted : Type 0
+FatesAreCounted =
+    (plan : Plan) (run : Run)
+    → 0 < plan.buckets
+    → length plan.senders ≤ 16
+    → list_any is_sending plan.control ≡ false
+    → IsInlineRun plan run
+    → CountFates run (sent_count run) (fast_count run) (dropped_count run) (waiting_count run)

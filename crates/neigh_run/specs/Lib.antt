@@ -2,6 +2,7 @@ pub mod Spelling
 pub mod Frames
 pub mod Merged
 pub mod Inline
+pub mod Fates
 pub mod Entries
 pub mod Report
 pub mod Plan

@@ -1,5 +1,5 @@
 use nb_base::Mode;
-use neigh_replay::{SettingsFail, settings};
+use neigh_words::{SettingsFail, settings};
 use std::alloc::{AllocError, Global};
 use std::test::Fail;
 

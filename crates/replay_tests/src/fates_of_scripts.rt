@@ -1,7 +1,8 @@
 ghost use Rattle.std.specs.Prelude.{◌≤◌, length};
 ghost use Rattle.neigh_script.specs.Limits as limits;
 
-use neigh_replay::{ReplayFail, plan, replay_inline};
+use neigh_plan::plan;
+use neigh_replay::{ReplayFail, replay_inline};
 use neigh_report::{Fates, fates};
 use neigh_script::{Script, read};
 use std::alloc::Global;

@@ -5,10 +5,10 @@ use Rattle.std.proofs.lemmas.Result.{err_from_is_err_and}
 use Rattle.nb_base.specs.declared.line.Line.{Line}
 use Rattle.nb_bucket.specs.Bucket.{Journal}
 use Rattle.neigh_replay.specs.declared.fail.ReplayFail.TheVariants.{TooLarge}
-use Rattle.neigh_replay.specs.Merging.{AreByMoment}
-use Rattle.neigh_replay.specs.Inline.{last_item_at}
+use Rattle.neigh_plan.specs.Merging.{AreByMoment}
+use Rattle.neigh_plan.specs.Inline.{last_item_at}
 use Rattle.neigh_replay.specs.Answered.{IsTask, IsNumbered, HasEntered, run_by}
-use Rattle.neigh_replay.proofs.Owners.{in_order}
+use Rattle.neigh_plan.proofs.Owners.{in_order}
 use Rattle.neigh_replay.proofs.Unentered.{entered_none}
 use Rattle.neigh_replay.proofs.Tasks.{same_fail, LineIsUpTo, tasks_merged, upto_merged, bound_for}
 use Rattle.neigh_replay.proofs.InlineRuns.{numbered_all, made_inline}

@@ -5,9 +5,9 @@ use Rattle.nb_base.specs.Params.{InRange}
 use Rattle.nb_base.specs.declared.plan.Plan.{Plan}
 use Rattle.nud_machine.specs.Asked.{greatest}
 use Rattle.neigh_replay.specs.declared.fail.ReplayFail.TheVariants.{TooLarge}
-use Rattle.neigh_replay.specs.Inline.{last_item_at, has_given_ops, most_lines, plan_bound}
-use Rattle.neigh_replay.proofs.ScriptLimits.{script_within, one_bucket}
-use Rattle.neigh_replay.proofs.ScriptBounds.{script_params, script_upto, script_given, never_too_large}
+use Rattle.neigh_plan.specs.Inline.{last_item_at, has_given_ops, most_lines, plan_bound}
+use Rattle.neigh_plan.proofs.ScriptLimits.{script_within, one_bucket}
+use Rattle.neigh_plan.proofs.ScriptBounds.{script_params, script_upto, script_given, never_too_large}
 use Rattle.neigh_replay.proofs.ScriptRuns.{has_text}
 use Rattle.neigh_replay.proofs.Tasks.{same_fail}
 use Rattle.neigh_replay.proofs.replay.report_of_script.Goals as goal

@@ -3,9 +3,9 @@ use Rattle.std.proofs.Common.{◌≡◌, ◌∙◌, ◌≤◌, ap, sym, subst, t
 use Rattle.nb_base.specs.Params.{InRange}
 use Rattle.nb_base.specs.declared.plan.Plan.{Plan}
 use Rattle.nud_machine.specs.Asked.{greatest}
-use Rattle.neigh_replay.specs.Inline.{last_item_at, has_given_ops}
-use Rattle.neigh_replay.proofs.ScriptLimits.{script_within, one_bucket}
-use Rattle.neigh_replay.proofs.ScriptBounds.{script_params, script_upto, script_given}
+use Rattle.neigh_plan.specs.Inline.{last_item_at, has_given_ops}
+use Rattle.neigh_plan.proofs.ScriptLimits.{script_within, one_bucket}
+use Rattle.neigh_plan.proofs.ScriptBounds.{script_params, script_upto, script_given}
 use Rattle.neigh_replay.proofs.ScriptRuns.{has_text, few_packets}
 use Rattle.replay_tests.proofs.fates_of_scripts.fates_of.Goals as goal
 

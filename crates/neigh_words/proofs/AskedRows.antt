@@ -1,0 +1,110 @@
+-- What words of the command ask for, and words that aren't of the command.
+use Rattle.std.proofs.Common.{◌≡◌, ◌∙◌, ◌||◌, ◌==◌, ◌++◌, ℕ, Bool, true, false, refl, List, [], ◌∷◌, Option, Some, None, codes}
+use Rattle.std.specs.List.{list_any}
+use Rattle.std.proofs.lemmas.List.Folds.{list_any-append}
+use Rattle.clap.proofs.OnLiterals.{clap_on_literals}
+use Rattle.clap.specs.Walk.{Text}
+use Rattle.nb_base.specs.declared.plan.Mode.TheVariants.{Inline}
+use Rattle.neigh_words.specs.Settings.{Asked, asked, asked_in, buckets_of, given, is_dashes, is_taken, mode_of, window_of}
+use Rattle.neigh_words.specs.Settings.{◌>>=◌}
+
+abbrev inline : Text → ℕ → Option Asked
+inline script window = Some (record { script = script; capture = None; mode = Inline; window = window; buckets = 1 })
+
+-- ---- words of the command
+
+-- a value behind `=` may be any text
+pub behind_equals : (script : Text) → asked ((codes "--script=" ++ script) ∷ []) ≡ inline script 50
+unfolding clap_on_literals asked_in is_taken given
+behind_equals script = refl
+
+-- a value that is the next word may be any text that doesn't begin with `-`
+pub next_word : (b : ℕ) (bytes : Text) → (b == 45) ≡ false → asked (codes "--script" ∷ (b ∷ bytes) ∷ []) ≡ inline (b ∷ bytes) 50
+unfolding clap_on_literals asked_in is_taken given
+next_word b bytes plain = rw (plain, plain) refl
+
+empty_word : asked (codes "--script" ∷ [] ∷ []) ≡ inline [] 50
+unfolding clap_on_literals asked_in is_taken given
+empty_word = refl
+
+-- each option's value is read
+pub all_given : (script mode window buckets : Text) → asked ((codes "--script=" ++ script) ∷ (codes "--mode=" ++ mode) ∷ (codes "--window=" ++ window) ∷ (codes "--buckets=" ++ buckets) ∷ [])
+    ≡ (mode_of mode >>= λ m. window_of window >>= λ w. buckets_of buckets >>= λ b. Some (record { script = script; capture = None; mode = m; window = w; buckets = b }))
+unfolding clap_on_literals asked_in is_taken given
+all_given script mode window buckets = refl
+
+any_order : asked (codes "--window=60000" ∷ codes "--buckets" ∷ codes "1" ∷ codes "--script" ∷ codes "s" ∷ codes "--mode" ∷ codes "inline" ∷ []) ≡ inline (codes "s") 60000
+unfolding clap_on_literals asked_in is_taken given
+any_order = refl
+
+-- ---- words that aren't
+
+anywhere : (before here after : Bool) → here ≡ true → (before || (here || after)) ≡ true
+anywhere true here after e = refl
+anywhere false true after e = refl
+anywhere false false after e = cc
+
+-- no word is `-` or `--`, wherever it stands
+pub no_dashes : (before after : List Text) (word : Text) → is_dashes word ≡ true → asked (before ++ word ∷ after) ≡ None
+no_dashes before after word dashes =
+    let has : list_any is_dashes (before ++ word ∷ after) ≡ true =
+    list_any-append is_dashes before (word ∷ after) ∙ anywhere (list_any is_dashes before) (is_dashes word) (list_any is_dashes after) dashes in
+    rw has refl
+
+-- no option is given twice
+pub not_twice : (first second : Text) → asked ((codes "--script=" ++ first) ∷ (codes "--script=" ++ second) ∷ []) ≡ None
+unfolding clap_on_literals asked_in is_taken given
+not_twice first second = refl
+
+-- the script is given
+pub not_without_script : (window : Text) → asked ((codes "--window=" ++ window) ∷ []) ≡ None
+unfolding clap_on_literals asked_in is_taken given
+not_without_script window = refl
+
+-- nothing stands beside the options
+not_one_word_more : asked (codes "--script" ∷ codes "s" ∷ codes "t" ∷ []) ≡ None
+unfolding clap_on_literals asked_in is_taken given
+not_one_word_more = refl
+
+not_an_empty_word_more : asked ([] ∷ codes "--script" ∷ codes "s" ∷ []) ≡ None
+unfolding clap_on_literals asked_in is_taken given
+not_an_empty_word_more = refl
+
+-- no value that begins with `-` is the next word
+not_a_dash_next : asked (codes "--script" ∷ codes "-x" ∷ []) ≡ None
+unfolding clap_on_literals asked_in is_taken given
+not_a_dash_next = refl
+
+not_an_option_next : asked (codes "--script" ∷ codes "--mode" ∷ codes "inline" ∷ []) ≡ None
+unfolding clap_on_literals asked_in is_taken given
+not_an_option_next = refl
+
+no_value : asked (codes "--script" ∷ []) ≡ None
+unfolding clap_on_literals asked_in is_taken given
+no_value = refl
+
+-- no abbreviation, no help and no version option
+no_abbreviation : asked (codes "--scr" ∷ codes "s" ∷ []) ≡ None
+unfolding clap_on_literals asked_in is_taken given
+no_abbreviation = refl
+
+no_help : asked (codes "--script" ∷ codes "s" ∷ codes "--help" ∷ []) ≡ None
+unfolding clap_on_literals asked_in is_taken given
+no_help = refl
+
+no_short_help : asked (codes "--script" ∷ codes "s" ∷ codes "-h" ∷ []) ≡ None
+unfolding clap_on_literals asked_in is_taken given
+no_short_help = refl
+
+no_version : asked (codes "--script" ∷ codes "s" ∷ codes "--version" ∷ []) ≡ None
+unfolding clap_on_literals asked_in is_taken given
+no_version = refl
+
+-- what isn't built yet
+no_capture : asked (codes "--script" ∷ codes "s" ∷ codes "--capture" ∷ codes "c" ∷ []) ≡ None
+unfolding clap_on_literals asked_in is_taken given
+no_capture = refl
+
+no_threads : asked (codes "--script" ∷ codes "s" ∷ codes "--mode" ∷ codes "threads" ∷ []) ≡ None
+unfolding clap_on_literals asked_in is_taken given
+no_threads = refl

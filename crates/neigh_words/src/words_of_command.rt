@@ -1,0 +1,195 @@
+//! The settings that the command's words ask for.
+ghost use Rattle.std.specs.Prelude.{◌≡◌, ◌≢◌, true, false, map, Some, None, Ok, Err, IfOk, IfErr, IfSome, IsTrue, codes, string_bytes};
+ghost use Rattle.std.specs.List.{list_any};
+ghost use Rattle.std.specs.Option.{option_map};
+ghost use Rattle.clap.specs.Matches.{found_of};
+ghost use Rattle.clap.specs.Simple.{app_of};
+ghost use Rattle.clap.specs.Values.{kind_of};
+ghost use Rattle.clap.specs.Walk.{first_of, rows_of, rule_of};
+ghost use Rattle.nb_base.specs.Buckets.{is_bucket_count};
+ghost use Rattle.neigh_words.specs.Settings.{asked, asked_by, asked_in, given, is_taken, neigh_command};
+ghost use Rattle.neigh_words.specs.Settings as of;
+ghost use Rattle.neigh_words.specs.Window.{is_window};
+
+use crate::options::{Settings, SettingsFail};
+use clap::error::ErrorKind;
+use clap::{Arg, ArgAction, ArgMatches, Command, Error};
+use nb_base::{Mode, read_number};
+use std::alloc::{AllocError, Global};
+
+/// The settings that the command's words ask for: `--script FILE [--mode inline] [--window MS] [--buckets N]`, each option at most once and in
+/// any order, its value as the next word or behind `=`. MS is 1 to 60,000 and N is 1, each 1 to 10 decimal digits. A value that begins with
+/// `-` stands behind `=`, and no word is `-` or `--`. The words are those behind the program's own name.
+///
+/// Without their options the mode is inline, the window 50 ms and the number of buckets 1. No words of the command ask for a capture yet.
+///
+/// # Errors
+///
+/// `Usage` only where the words aren't of the command, and there always, unless memory runs out before that is known, which is `Memory`.
+pub fn settings(alloc: Global, words: &[String]) -> Result<Settings, SettingsFail>
+    ensures found { IfOk result (λ settings. asked (map string_bytes words.now) ≡ Some (asked_by settings)) }
+    ensures usage { result ≡ Err SettingsFail.Usage → asked (map string_bytes words.now) ≡ None }
+{
+    if has_dashes(words) {
+        return Err(SettingsFail::Usage);
+    }
+    let matches = matches(alloc, words)?;
+    settings_in(alloc, &matches)
+}
+
+fn has_dashes(words: &[String]) -> bool
+    ensures { result ≡ list_any (λ word. of.is_dashes (string_bytes word)) words.now }
+{
+    words.iter().any(|word| is_dashes(word.as_str()))
+}
+
+// What `clap` makes of the words.
+fn matches<'a>(alloc: Global, words: &'a [String]) -> Result<ArgMatches<'a>, SettingsFail>
+    ensures taken { IfOk result (λ _. is_taken (map string_bytes words.entry.now) ≡ true) }
+    ensures rows { IfOk result (λ matches. rows_of (found_of matches) ≡ given (map string_bytes words.entry.now)) }
+    ensures usage { result ≡ Err SettingsFail.Usage → is_taken (map string_bytes words.entry.now) ≡ false }
+{
+    let Ok(command) = command(alloc) else {
+        return Err(SettingsFail::Memory);
+    };
+    match command.try_get_matches_from(words) {
+        Ok(matches) => Ok(matches),
+        Err(error) => Err(cause(&error)),
+    }
+}
+
+fn cause(error: &Error) -> SettingsFail
+    ensures usage { result ≡ SettingsFail.Usage → kind_of error.now ≢ ErrorKind.OutOfMemory }
+    ensures memory { result ≡ SettingsFail.Memory → kind_of error.now ≡ ErrorKind.OutOfMemory }
+{
+    match error.kind() {
+        ErrorKind::OutOfMemory => SettingsFail::Memory,
+        _ => SettingsFail::Usage,
+    }
+}
+
+// The command as `clap` is told of it.
+fn command<'a>(alloc: Global) -> Result<Command<'a>, AllocError>
+    ensures { IfOk result (λ command. app_of command ≡ neigh_command) }
+{
+    let script = option(alloc, "script").required(true);
+    let command = Command::new(alloc, "neigh")
+        .no_binary_name(true)
+        .disable_help_flag(true)
+        .disable_version_flag(true);
+    command
+        .arg(script)?
+        .arg(option(alloc, "mode"))?
+        .arg(option(alloc, "window"))?
+        .arg(option(alloc, "buckets"))
+}
+
+// An option with one value.
+fn option<'a>(alloc: Global, name: &'a str) -> Arg<'a>
+    ensures rule { rule_of result ≡ of.option_named name.now }
+    ensures local { result.global ≡ false }
+{
+    Arg::new(alloc, name).long(name).action(ArgAction::Set)
+}
+
+// The settings that the options' values ask for.
+#[tactic(auto, unfolding(crate::specs::Settings::asked_in))]
+fn settings_in(alloc: Global, matches: &ArgMatches<'_>) -> Result<Settings, SettingsFail>
+    ensures found { IfOk result (λ settings. asked_in (rows_of (found_of matches.now)) ≡ Some (asked_by settings)) }
+    ensures usage { result ≡ Err SettingsFail.Usage → asked_in (rows_of (found_of matches.now)) ≡ None }
+{
+    let Some(script) = value_of(matches, "script") else {
+        return Err(SettingsFail::Usage);
+    };
+    let Some(mode) = mode_in(matches) else {
+        return Err(SettingsFail::Usage);
+    };
+    let Some(window) = window_in(matches) else {
+        return Err(SettingsFail::Usage);
+    };
+    let Some(buckets) = buckets_in(matches) else {
+        return Err(SettingsFail::Usage);
+    };
+    let Ok(script) = String::from_str(alloc, script) else {
+        return Err(SettingsFail::Memory);
+    };
+    Ok(Settings {
+        script,
+        capture: None,
+        mode,
+        window,
+        buckets,
+    })
+}
+
+fn mode_in(matches: &ArgMatches<'_>) -> Option<Mode>
+    ensures { result ≡ of.read_or Mode.Inline of.mode_of (first_of (codes "mode") (rows_of (found_of matches.now))) }
+{
+    match value_of(matches, "mode") {
+        Some(text) => read_mode(text),
+        None => Some(Mode::Inline),
+    }
+}
+
+fn window_in(matches: &ArgMatches<'_>) -> Option<u32>
+    ensures value { result ≡ of.read_or 50 of.window_of (first_of (codes "window") (rows_of (found_of matches.now))) }
+    ensures fits { IfSome result (λ n. IsTrue (is_window n)) }
+{
+    match value_of(matches, "window") {
+        Some(text) => read_window(text),
+        None => Some(50),
+    }
+}
+
+fn buckets_in(matches: &ArgMatches<'_>) -> Option<u32>
+    ensures value { result ≡ of.read_or 1 of.buckets_of (first_of (codes "buckets") (rows_of (found_of matches.now))) }
+    ensures fits { IfSome result (λ n. IsTrue (is_bucket_count n)) }
+{
+    match value_of(matches, "buckets") {
+        Some(text) => read_buckets(text),
+        None => Some(1),
+    }
+}
+
+// The value of an option, where it is given.
+fn value_of<'a>(matches: &ArgMatches<'a>, name: &str) -> Option<&'a str>
+    ensures { option_map (λ text. text.now) result ≡ first_of name.now (rows_of (found_of matches.now)) }
+{
+    matches.get_str(name)
+}
+
+fn read_mode(text: &str) -> Option<Mode>
+    ensures { result ≡ of.mode_of text.now }
+{
+    if text == "inline" {
+        Some(Mode::Inline)
+    } else {
+        None
+    }
+}
+
+fn read_window(text: &str) -> Option<u32>
+    ensures value { result ≡ of.window_of text.now }
+    ensures fits { IfSome result (λ n. IsTrue (is_window n)) }
+{
+    let number = read_number(text.as_bytes())?;
+    if 1 <= number && number <= 60_000 {
+        Some(number as u32)
+    } else {
+        None
+    }
+}
+
+fn read_buckets(text: &str) -> Option<u32>
+    ensures value { result ≡ of.buckets_of text.now }
+    ensures fits { IfSome result (λ n. IsTrue (is_bucket_count n)) }
+{
+    let number = read_number(text.as_bytes())?;
+    if number == 1 { Some(1) } else { None }
+}
+
+fn is_dashes(word: &str) -> bool
+    ensures { result ≡ of.is_dashes word.now }
+{
+    word == "-" || word == "--"
+}
