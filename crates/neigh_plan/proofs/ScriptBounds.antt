@@ -12,6 +12,8 @@ use Rattle.nb_base.specs.declared.op.Op.TheVariants as op
 use Rattle.nb_base.specs.declared.key.Key.{Key}
 use Rattle.nb_base.specs.declared.host.Host.{Host}
 use Rattle.nb_base.specs.declared.params.Params.{Params}
+use Rattle.nb_base.specs.declared.plan.Plan.{Plan}
+use Rattle.nb_base.specs.declared.plan.ControlItem.TheVariants as control
 use Rattle.nb_base.specs.Params.{InRange}
 use Rattle.nud_machine.specs.Asked.{greatest, is_settable}
 use Rattle.nb_journal.specs.Accounts.{line_bound}
@@ -21,6 +23,7 @@ use Rattle.neigh_script.specs.declared.script.ScriptItem.TheVariants as item
 use Rattle.neigh_script.specs.Context.{at_of}
 use Rattle.neigh_script.specs.Limits.{is_given_state, IsOpWithin, IsItemWithin}
 use Rattle.neigh_script.specs.Limits as limits
+use Rattle.neigh_run.specs.Control.{HostState, host_start, turn}
 use Rattle.neigh_run.specs.Merged.{Entered, control_ops, sender_ops, senders_ops, merged}
 use Rattle.neigh_run.specs.Plan.{control_at, send_at, control_items, sends_of, senders_from, plan_of}
 use Rattle.neigh_plan.specs.Inline.{most_lines, greatest_of, last_item_at, is_given_op, has_given_ops, plan_bound}
@@ -46,15 +49,15 @@ given_op host op.Show h = refl
 given_op host op.Flush h = refl
 given_op host _ h = absurd h
 
-given_items : (host : Host) (senders n : ℕ) (items : List ScriptItem) → AllByRecursion (IsItemWithin host senders) items → list_all (λ (x : Entered). is_given_op x.op) (control_ops n (control_items items)) ≡ true
-given_items host senders n [] h = refl
-given_items host senders n (item.Neigh at o ∷ items) h = rw (given_op host o h.0.1) (given_items host senders (n + 1) items h.1)
-given_items host senders n (item.Proxy at key add ∷ items) h = given_items host senders (n + 1) items h.1
-given_items host senders n (item.Send at sender key payload ∷ items) h = given_items host senders n items h.1
+given_items : (plan : Plan) (s : HostState) (host : Host) (senders n : ℕ) (items : List ScriptItem) → AllByRecursion (IsItemWithin host senders) items → list_all (λ (x : Entered). is_given_op x.op) (control_ops plan s n (control_items items)) ≡ true
+given_items plan s host senders n [] h = refl
+given_items plan s host senders n (item.Neigh at o ∷ items) h = rw (given_op host o h.0.1) (given_items plan (turn plan s n (control.Neigh at o)).behind host senders (n + 1) items h.1)
+given_items plan s host senders n (item.Proxy at key add ∷ items) h = given_items plan (turn plan s n (control.Proxy at key add)).behind host senders (n + 1) items h.1
+given_items plan s host senders n (item.Send at sender key payload ∷ items) h = given_items plan s host senders n items h.1
 
 pub script_given : (script : Script) (window buckets : ℕ) → limits.IsWithinLimits script → has_given_ops (plan_of script window buckets) ≡ true
 unfolding plan_of has_given_ops
-script_given script window buckets h = given_items script.host script.senders 1 script.items h.items
+script_given script window buckets h = given_items (plan_of script window buckets) host_start script.host script.senders 1 script.items h.items
 
 pub script_params : (script : Script) (window buckets : ℕ) → limits.IsWithinLimits script → InRange (plan_of script window buckets).params
 unfolding plan_of
@@ -161,11 +164,11 @@ few_ops k n (item.Send at sender key payload ∷ items) = let more = total_send 
 pub script_ops : (script : Script) (window buckets : ℕ) → length (merged (plan_of script window buckets)) ≤ length script.items
 unfolding plan_of
 script_ops script window buckets =
-    let first = control_ops 1 (control_items script.items) in
+    let first = control_ops (plan_of script window buckets) host_start 1 (control_items script.items) in
     let others = senders_ops 1 (senders_from 1 script.senders script.items) in
     let all = length_all [] (first ++ others) in
     let both = length-append first others in
-    let front = control_long 1 (control_items script.items) in
+    let front = control_long (plan_of script window buckets) host_start 1 (control_items script.items) in
     let back = senders_total 1 1 script.senders script.items in
     let few = few_ops 1 script.senders script.items in
     omega (arith, all, both, front, back, few)

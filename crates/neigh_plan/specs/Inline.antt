@@ -6,6 +6,7 @@ use Rattle.nb_base.specs.declared.plan.Plan.{Plan}
 use Rattle.nb_journal.specs.Keys.{is_own, is_send}
 use Rattle.nb_journal.specs.Evaluated.{gives_settable}
 use Rattle.nb_journal.specs.Accounts.{line_bound}
+use Rattle.neigh_run.specs.Control.{host_start}
 use Rattle.neigh_run.specs.Merged.{control_ops, merged}
 use Rattle.neigh_run.specs.Plan.{control_at, send_at}
 
@@ -32,7 +33,7 @@ is_given_op o = is_own o && (not (is_send o) && gives_settable o)
 
 -- and each of participant 0 is such a one
 unfoldable pub has_given_ops : Plan → Bool
-has_given_ops plan = list_all (λ x. is_given_op x.op) (control_ops 1 plan.control)
+has_given_ops plan = list_all (λ x. is_given_op x.op) (control_ops plan host_start 1 plan.control)
 
 -- the most lines that the plan's journal can have
 unfoldable pub plan_bound : Plan → ℕ

@@ -1,5 +1,6 @@
 //! The operations of a plan in the order in which an inline run enters them, as lines.
 ghost use Rattle.std.specs.Prelude.{◌≡◌, ℕ, ◌+◌, ◌<◌, ◌≤◌, ◌^◌, [], ◌∷◌, ◌++◌, map, length, IfOk, OnOk, IfSome, MatchOption, nat_le};
+ghost use Rattle.neigh_run.specs.Control.{HostState, host_start};
 ghost use Rattle.neigh_run.specs.Merged.{id_for, control_op, control_ops, sender_ops, merged};
 ghost use Rattle.neigh_run.specs.Plan.{IsList, IsWithinLimits, control_at, send_at};
 ghost use Rattle.neigh_plan.specs.Merging as merging;
@@ -115,10 +116,10 @@ fn sender_lines(
     Ok(lines)
 }
 
-/// Appends the operation's line, where the item has one.
+/// Appends the operation's line, where the item has one. It is the same in every state of the host.
 fn take_control(lines: &mut Items<Line>, place: usize, item: &ControlItem) -> Result<(), AllocError>
     requires { place < 131072 }
-    ensures { OnOk result (lines.new ≡ lines.old ++ lines_of (option_to_list (control_op (place + 1) item.now))) }
+    ensures { (plan : Plan) (state : HostState) → OnOk result (lines.new ≡ lines.old ++ lines_of (option_to_list (control_op plan state (place + 1) item.now))) }
 {
     match item {
         ControlItem::Neigh { at, op } => lines.push(line_of(*at, id_of(0, place), *op)),
@@ -127,9 +128,13 @@ fn take_control(lines: &mut Items<Line>, place: usize, item: &ControlItem) -> Re
 }
 
 #[tactic(auto, using(crate::proofs::Participants::control_ops_more))]
-fn control_lines(alloc: Global, items: &[ControlItem]) -> Result<Items<Line>, AllocError>
+fn control_lines(
+    alloc: Global,
+    _plan: &Plan,
+    items: &[ControlItem],
+) -> Result<Items<Line>, AllocError>
     requires { length items.now ≤ 131072 }
-    ensures { IfOk result (λ lines. lines ≡ lines_of (control_ops 1 items.now)) }
+    ensures { IfOk result (λ lines. lines ≡ lines_of (control_ops _plan.now host_start 1 items.now)) }
 {
     let mut lines = Items::new(alloc);
     for (place, item) in items.iter().enumerate() {
@@ -162,7 +167,7 @@ pub fn merged_lines(alloc: Global, plan: &Plan) -> Result<Items<Line>, AllocErro
     ensures value { IfOk result (λ lines. lines ≡ lines_of (merged plan.now)) }
     ensures few { IfOk result (λ lines. length lines < 2 ^ 31) }
 {
-    let mut lines = control_lines(alloc, plan.control.as_slice())?;
+    let mut lines = control_lines(alloc, plan, plan.control.as_slice())?;
     let senders = plan.senders.as_slice();
     for (before, items) in senders.iter().enumerate() {
         lines = merge_sender(alloc, &lines, before as u32 + 1, items)?;

@@ -26,6 +26,7 @@ use Rattle.nb_journal.specs.Keys.{key_of, is_own}
 use Rattle.nb_journal.specs.Fold.{id_of, reply_of}
 use Rattle.nb_journal.specs.Lawful.{IsLawful}
 use Rattle.nb_bucket.specs.Bucket.{Journal}
+use Rattle.neigh_run.specs.Control.{HostState, Waiting, host_start, turn, waiting_behind, due_by, answer_lines}
 use Rattle.neigh_run.specs.Merged.{Entered, id_for, control_ops, sender_ops, goes_to, merged, merged_for}
 use Rattle.neigh_run.specs.Inline.{own_lines, entered_line, placed_at, placed_from, log_of, logs_of, host_lines_of, IsInlineRun}
 use Rattle.neigh_run.specs.declared.run.Run.{Run}
@@ -115,15 +116,27 @@ one_bucket plan journal id o one =
     ∙ ap (λ (n : ℕ). (if goes_to n 0 o then placed plan journal id ∷ [] else []) ++ []) one
     ∙ ap (λ (b : Bool). (if b then placed plan journal id ∷ [] else []) ++ []) (goes o)
 
-hosts_are : (plan : Plan) (journal : List Line) (n : ℕ) (items : List ControlItem) → plan.buckets ≡ 1 → host_lines_of plan (journal ∷ []) n items ≡ hosts plan journal (control_ops n items)
-hosts_are plan journal n [] one = refl
-hosts_are plan journal n (control.Neigh at o ∷ items) one =
+-- no answer waits
+abbrev IsStill : HostState → Type 0
+IsStill s = s.waiting ≡ []
+
+hosts_are : (plan : Plan) (journal : List Line) (s : HostState) (n : ℕ) (items : List ControlItem) → plan.buckets ≡ 1 → IsStill s → host_lines_of plan (journal ∷ []) s n items ≡ hosts plan journal (control_ops plan s n items)
+hosts_are plan journal s n [] one still = refl
+hosts_are plan journal s n (control.Neigh at o ∷ items) one still =
     let number : (32 * n + 0) / 32 ≡ n = omega arith in
-    ap (λ (ps : List Placed). host_line.Neigh n at ps ∷ host_lines_of plan (journal ∷ []) (n + 1) items) (one_bucket plan journal (id_for 0 n) o one)
-    ∙ ap (λ (m : ℕ). host_line.Neigh m at (placed plan journal (id_for 0 n) ∷ []) ∷ host_lines_of plan (journal ∷ []) (n + 1) items) (sym number)
-    ∙ ap (λ (hs : List HostLine). host_line.Neigh ((32 * n + 0) / 32) at (placed plan journal (id_for 0 n) ∷ []) ∷ hs) (hosts_are plan journal (n + 1) items one)
-hosts_are plan journal n (control.Frame at bytes ∷ items) one = hosts_are plan journal (n + 1) items one
-hosts_are plan journal n (control.Proxy at key add ∷ items) one = hosts_are plan journal (n + 1) items one
+    let behind = (turn plan s n (control.Neigh at o)).behind in
+    ap (λ (waiting : List Waiting). (answer_lines (due_by at waiting) ++ host_line.Neigh n at (placed_from 0 plan.buckets plan (journal ∷ []) (id_for 0 n) o) ∷ []) ++ host_lines_of plan (journal ∷ []) behind (n + 1) items) still
+    ∙ ap (λ (ps : List Placed). host_line.Neigh n at ps ∷ host_lines_of plan (journal ∷ []) behind (n + 1) items) (one_bucket plan journal (id_for 0 n) o one)
+    ∙ ap (λ (m : ℕ). host_line.Neigh m at (placed plan journal (id_for 0 n) ∷ []) ∷ host_lines_of plan (journal ∷ []) behind (n + 1) items) (sym number)
+    ∙ ap (λ (hs : List HostLine). host_line.Neigh ((32 * n + 0) / 32) at (placed plan journal (id_for 0 n) ∷ []) ∷ hs) (hosts_are plan journal behind (n + 1) items one (ap (waiting_behind at) still))
+hosts_are plan journal s n (control.Frame at bytes ∷ items) one still =
+    let behind = (turn plan s n (control.Frame at bytes)).behind in
+    ap (λ (waiting : List Waiting). (answer_lines (due_by at waiting) ++ []) ++ host_lines_of plan (journal ∷ []) behind (n + 1) items) still
+    ∙ hosts_are plan journal behind (n + 1) items one (ap (waiting_behind at) still)
+hosts_are plan journal s n (control.Proxy at key add ∷ items) one still =
+    let behind = (turn plan s n (control.Proxy at key add)).behind in
+    ap (λ (waiting : List Waiting). (answer_lines (due_by at waiting) ++ []) ++ host_lines_of plan (journal ∷ []) behind (n + 1) items) still
+    ∙ hosts_are plan journal behind (n + 1) items one (ap (waiting_behind at) still)
 
 hosted : (plan : Plan) (journal past xs : List Line) → IsNamedOnce journal → journal ≡ past ++ xs
     → host_lines_by (answers_behind plan.params past xs) ≡ hosts plan journal (filter (is_by 0) (operations xs))
@@ -186,7 +199,7 @@ made_inline plan bucket answers run one within params h is = subst (IsInlineRun 
       ∙ hosted plan bucket.lines [] bucket.lines named refl
       ∙ ap (λ (xs : List Entered). hosts plan bucket.lines (filter (is_by 0) xs)) entered
       ∙ ap (hosts plan bucket.lines) order.control
-      ∙ sym (hosts_are plan bucket.lines 1 plan.control one);
+      ∙ sym (hosts_are plan bucket.lines host_start 1 plan.control one refl);
   marks = refl;
 }) where
   order : IsInOrder plan

@@ -16,6 +16,7 @@ use Rattle.neigh_script.specs.declared.script.Script.{Script}
 use Rattle.neigh_script.specs.Limits as limits
 use Rattle.neigh_run.specs.declared.run.Run.{Run}
 use Rattle.neigh_run.specs.Inline.{IsInlineRun, journal_at}
+use Rattle.neigh_run.specs.Control.{HostState, host_start, turn}
 use Rattle.neigh_run.specs.Merged.{Entered, control_ops, is_sending}
 use Rattle.neigh_run.specs.Plan.{IsWithinLimits, AreLists, send_at, plan_of}
 use Rattle.neigh_run.specs.Report.{sent_count, fast_count, dropped_count, waiting_count}
@@ -39,17 +40,18 @@ not_false true h = cc
 given_none : (o : Op) → is_given_op o ≡ true → is_send o ≡ false
 given_none o h = not_false (is_send o) (and_parts (not (is_send o)) (gives_settable o) (and_parts (is_own o) (not (is_send o) && gives_settable o) h).1).0
 
-quiet : (n : ℕ) (items : List ControlItem) → list_all (λ (x : Entered). is_given_op x.op) (control_ops n items) ≡ true → list_any is_sending items ≡ false
-quiet n [] h = refl
-quiet n (control.Neigh at o ∷ items) h =
-    let parts = and_parts (is_given_op o) (list_all (λ (x : Entered). is_given_op x.op) (control_ops (n + 1) items)) h in
-    rw (given_none o parts.0) (quiet (n + 1) items parts.1)
-quiet n (control.Frame at bytes ∷ items) h = quiet (n + 1) items h
-quiet n (control.Proxy at key add ∷ items) h = quiet (n + 1) items h
+quiet : (plan : Plan) (s : HostState) (n : ℕ) (items : List ControlItem) → list_all (λ (x : Entered). is_given_op x.op) (control_ops plan s n items) ≡ true → list_any is_sending items ≡ false
+quiet plan s n [] h = refl
+quiet plan s n (control.Neigh at o ∷ items) h =
+    let behind = (turn plan s n (control.Neigh at o)).behind in
+    let parts = and_parts (is_given_op o) (list_all (λ (x : Entered). is_given_op x.op) (control_ops plan behind (n + 1) items)) h in
+    rw (given_none o parts.0) (quiet plan behind (n + 1) items parts.1)
+quiet plan s n (control.Frame at bytes ∷ items) h = quiet plan (turn plan s n (control.Frame at bytes)).behind (n + 1) items h
+quiet plan s n (control.Proxy at key add ∷ items) h = quiet plan (turn plan s n (control.Proxy at key add)).behind (n + 1) items h
 
 still : (plan : Plan) → has_given_ops plan ≡ true → list_any is_sending plan.control ≡ false
 unfolding has_given_ops
-still plan h = quiet 1 plan.control h
+still plan h = quiet plan host_start 1 plan.control h
 
 all_few : (senders : List (List SendItem)) → AreLists senders → sum_by length senders ≤ length senders * 131_072
 all_few [] h = omega arith

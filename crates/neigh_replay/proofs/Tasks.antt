@@ -1,5 +1,5 @@
 -- The operations of a plan in merged order are such as a bucket takes: early enough, own, with states that may be given, and by moment.
-use Rattle.std.proofs.Common.{◌≡◌, ℕ, zero, suc, ◌+◌, ◌<◌, ◌≤◌, true, List, [], ◌∷◌, ◌++◌, length, map, take, get_or, refl, sym, ◌∙◌, ap, subst, arith}
+use Rattle.std.proofs.Common.{◌≡◌, ℕ, zero, suc, ◌+◌, ◌<◌, ◌≤◌, true, List, [], ◌∷◌, ◌++◌, length, map, take, get_or, Option, Some, None, refl, sym, ◌∙◌, ap, subst, arith}
 use Rattle.std.specs.Prelude.{◌&&◌, not, flat_map, Result, Err}
 use Rattle.std.specs.List.{list_all, AllByRecursion}
 use Rattle.std.proofs.lemmas.Bool.{and_parts}
@@ -10,18 +10,19 @@ use Rattle.nb_base.specs.declared.params.Params.{Params}
 use Rattle.nb_base.specs.declared.plan.Plan.{Plan}
 use Rattle.nb_base.specs.declared.plan.SendItem.{SendItem}
 use Rattle.nb_base.specs.declared.plan.ControlItem.{ControlItem}
-use Rattle.nb_base.specs.declared.plan.ControlItem.TheVariants as control
 use Rattle.nud_machine.specs.Asked.{greatest}
 use Rattle.nb_journal.specs.Keys.{is_own, is_send}
 use Rattle.nb_journal.specs.Evaluated.{gives_settable}
 use Rattle.nb_journal.specs.Lawful.{last_moment}
 use Rattle.nb_journal.specs.Accounts.{line_bound}
+use Rattle.neigh_run.specs.Control.{HostState, host_start, turn}
 use Rattle.neigh_run.specs.Merged.{Entered, control_ops, sender_ops, senders_ops, merged}
 use Rattle.neigh_run.specs.Plan.{RisesFrom, control_at, send_at}
 use Rattle.neigh_replay.specs.declared.fail.ReplayFail.{ReplayFail}
 use Rattle.neigh_plan.specs.Inline.{most_lines, greatest_of, last_item_at, is_given_op, has_given_ops, plan_bound}
 use Rattle.neigh_plan.specs.Merging.{line_of, lines_of, line_at}
 use Rattle.neigh_replay.specs.Answered.{IsTask}
+use Rattle.neigh_run.proofs.Numbers.{own_op}
 use Rattle.neigh_plan.proofs.Orders.{Each, each_append, each_all}
 
 -- ---- moments
@@ -38,11 +39,12 @@ greatest-right (x ∷ xs) ys = let rest = greatest-right xs ys in omega (arith, 
 abbrev pub IsUpTo : ℕ → Entered → Type 0
 IsUpTo m x = x.at ≤ m
 
-early_control : (n m : ℕ) (items : List ControlItem) → greatest_of (map control_at items) ≤ m → Each (IsUpTo m) (control_ops n items)
-early_control n m [] le = tt
-early_control n m (control.Neigh at o ∷ items) le = (omega (arith, le), early_control (n + 1) m items (omega (arith, le)))
-early_control n m (control.Frame at bytes ∷ items) le = early_control (n + 1) m items (omega (arith, le))
-early_control n m (control.Proxy at key add ∷ items) le = early_control (n + 1) m items (omega (arith, le))
+early_control : (plan : Plan) (s : HostState) (n m : ℕ) (items : List ControlItem) → greatest_of (map control_at items) ≤ m → Each (IsUpTo m) (control_ops plan s n items)
+early_control plan s n m [] le = tt
+early_control plan s n m (x ∷ xs) le = by_op (turn plan s n x).operation (early_control plan (turn plan s n x).behind (n + 1) m xs (omega (arith, le))) where
+  by_op : (o : Option Op) → Each (IsUpTo m) (control_ops plan (turn plan s n x).behind (n + 1) xs) → Each (IsUpTo m) (own_op x n o ++ control_ops plan (turn plan s n x).behind (n + 1) xs)
+  by_op None rest = rest
+  by_op (Some o) rest = (omega (arith, le), rest)
 
 early_sender : (p n m : ℕ) (items : List SendItem) → greatest_of (map send_at items) ≤ m → Each (IsUpTo m) (sender_ops p n items)
 early_sender p n m [] le = tt
@@ -61,8 +63,8 @@ unfolding last_item_at
 early_merged plan =
     let left = greatest-left (map control_at plan.control) (flat_map (map send_at) plan.senders) in
     let right = greatest-right (map control_at plan.control) (flat_map (map send_at) plan.senders) in
-    each_all (IsUpTo (last_item_at plan)) [] (control_ops 1 plan.control ++ senders_ops 1 plan.senders) tt
-    (each_append (IsUpTo (last_item_at plan)) (control_ops 1 plan.control) (senders_ops 1 plan.senders) (early_control 1 (last_item_at plan) plan.control left) (early_senders 1 (last_item_at plan) plan.senders right))
+    each_all (IsUpTo (last_item_at plan)) [] (control_ops plan host_start 1 plan.control ++ senders_ops 1 plan.senders) tt
+    (each_append (IsUpTo (last_item_at plan)) (control_ops plan host_start 1 plan.control) (senders_ops 1 plan.senders) (early_control plan host_start 1 (last_item_at plan) plan.control left) (early_senders 1 (last_item_at plan) plan.senders right))
 
 -- ---- operations
 
@@ -90,8 +92,8 @@ taken_senders p (items ∷ rest) = each_append IsTaken (sender_ops p 1 items) (s
 pub taken_merged : (plan : Plan) → has_given_ops plan ≡ true → Each IsTaken (merged plan)
 unfolding has_given_ops
 taken_merged plan h =
-    each_all IsTaken [] (control_ops 1 plan.control ++ senders_ops 1 plan.senders) tt
-    (each_append IsTaken (control_ops 1 plan.control) (senders_ops 1 plan.senders) (given_each (control_ops 1 plan.control) h) (taken_senders 1 plan.senders))
+    each_all IsTaken [] (control_ops plan host_start 1 plan.control ++ senders_ops 1 plan.senders) tt
+    (each_append IsTaken (control_ops plan host_start 1 plan.control) (senders_ops 1 plan.senders) (given_each (control_ops plan host_start 1 plan.control) h) (taken_senders 1 plan.senders))
 
 -- ---- their lines
 

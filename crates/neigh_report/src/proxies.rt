@@ -3,11 +3,12 @@ ghost use Rattle.std.specs.Prelude.{◌≡◌, ◌++◌, ◌∷◌, [], not, if�
 ghost use Rattle.std.specs.List.{list_any};
 ghost use Rattle.text_codes.specs.Lines.{line_text, text_of};
 ghost use Rattle.nb_journal.specs.Keys as keys_of;
-ghost use Rattle.neigh_run.specs.Entries.{proxies_with, proxy_words};
+ghost use Rattle.neigh_run.specs.Control.{host_start, state_behind, proxies_with};
+ghost use Rattle.neigh_run.specs.Entries.{proxy_words};
 ghost use Rattle.neigh_run.specs.Report as report_of;
 
 use crate::head::write_count;
-use nb_base::{ControlItem, Host, Key};
+use nb_base::{ControlItem, Host, Key, Plan};
 use nb_journal::is_key;
 use std::alloc::{AllocError, Global};
 use std::fmt::Write;
@@ -62,6 +63,13 @@ fn proxies_of(alloc: Global, items: &[ControlItem]) -> Result<Vec<Key>, AllocErr
     Ok(keys)
 }
 
+#[tactic(auto, using(neigh_run::proofs::HostStates::proxies_behind))]
+fn proxies_behind(alloc: Global, plan: &Plan) -> Result<Vec<Key>, AllocError>
+    ensures { IfOk result (λ keys. keys.items ≡ (state_behind plan.now host_start 1 plan.now.control).proxies) }
+{
+    proxies_of(alloc, plan.control.as_slice())
+}
+
 #[tactic(auto, unfolding(text_codes::specs::Lines::line_text))]
 fn write_proxy(report: &mut String, host: &Host, key: &Key) -> Result<(), AllocError>
     ensures { OnOk result (string_bytes report.new ≡ string_bytes report.old ++ line_text (proxy_words host.now key.now)) }
@@ -79,16 +87,11 @@ fn write_each_proxy(report: &mut String, host: &Host, keys: &[Key]) -> Result<()
     Ok(())
 }
 
-/// The number of proxy entries, and each.
-pub fn write_proxies(
-    alloc: Global,
-    report: &mut String,
-    host: &Host,
-    items: &[ControlItem],
-) -> Result<(), AllocError>
-    ensures { OnOk result (string_bytes report.new ≡ string_bytes report.old ++ text_of (report_of.counted (codes "proxies" ∷ []) (map (proxy_words host.now) (fold proxies_with [] items.now)))) }
+/// The number of proxy entries at the end of a plan, and each.
+pub fn write_proxies(alloc: Global, report: &mut String, plan: &Plan) -> Result<(), AllocError>
+    ensures { OnOk result (string_bytes report.new ≡ string_bytes report.old ++ text_of (report_of.counted (codes "proxies" ∷ []) (map (proxy_words plan.now.host) (state_behind plan.now host_start 1 plan.now.control).proxies))) }
 {
-    let keys = proxies_of(alloc, items)?;
+    let keys = proxies_behind(alloc, plan)?;
     write_count(report, "proxies", keys.len() as u128)?;
-    write_each_proxy(report, host, &keys)
+    write_each_proxy(report, &plan.host, &keys)
 }

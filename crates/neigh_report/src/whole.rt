@@ -75,7 +75,7 @@ fn write_bottom(
     let waiting = count_waiting(&behind.folds);
     write_fates(report, sent, fast, dropped, waiting)?;
     write_table(report, &run.plan.host, &behind.folds)?;
-    write_proxies(alloc, report, &run.plan.host, run.plan.control.as_slice())?;
+    write_proxies(alloc, report, &run.plan)?;
     write_end(report)
 }
 

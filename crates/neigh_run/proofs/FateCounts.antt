@@ -18,6 +18,7 @@ use Rattle.nb_journal.specs.Keys.{is_send}
 use Rattle.nb_journal.specs.Fold.{state_of, known_keys, is_transmit}
 use Rattle.nb_journal.specs.Accounts.{Fate, Waits, is_id, fate_by_act, acts_at, ends_behind, is_waiting, fates_of, is_drop, acts_behind, waiting_behind}
 use Rattle.neigh_run.specs.declared.run.Run.{Run}
+use Rattle.neigh_run.specs.Control.{host_start}
 use Rattle.neigh_run.specs.Merged.{Entered, control_ops, sender_ops, senders_ops, packet_count, is_sending}
 use Rattle.neigh_run.specs.Inline.{IsInlineRun, journal_at}
 use Rattle.neigh_run.specs.Report.{is_fast, all_acts, journal_acts, waiting_after, sent_count, fast_count, dropped_count, waiting_count}
@@ -320,8 +321,8 @@ passing_few run test ids (x ∷ xs) h =
 
 once_each : (plan : Plan) (id : OpId) → length plan.senders ≤ 16 → count (has_id id) (senders_ops 1 plan.senders) ≤ 1
 once_each plan id few =
-    let both = count_append (has_id id) (control_ops 1 plan.control) (senders_ops 1 plan.senders) in
-    let once = each_id_once plan.control plan.senders id few in
+    let both = count_append (has_id id) (control_ops plan host_start 1 plan.control) (senders_ops 1 plan.senders) in
+    let once = each_id_once plan host_start plan.control plan.senders id few in
     omega (arith, both, once)
 
 passing_most : (run : Run) (test : PacketFate → Bool) (ids : List OpId) → length run.plan.senders ≤ 16 → ((x : Entered) → is_send x.op ≡ true → HasPlaces run test ids x) → passing_all run test (senders_ops 1 run.plan.senders) ≤ length ids

@@ -12,3 +12,4 @@ pub mod Counting
 pub mod Numbers
 pub mod PacketFates
 pub mod FateCounts
+pub mod HostStates

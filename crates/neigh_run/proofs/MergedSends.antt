@@ -17,6 +17,7 @@ use Rattle.nb_base.specs.declared.plan.ControlItem.{ControlItem}
 use Rattle.nb_base.specs.declared.plan.ControlItem.TheVariants as control
 use Rattle.nb_base.specs.Buckets.{bucket_of}
 use Rattle.nb_journal.specs.Keys.{is_send}
+use Rattle.neigh_run.specs.Control.{HostState, host_start, turn}
 use Rattle.neigh_run.specs.Merged.{Entered, id_for, control_ops, sender_ops, senders_ops, insert, merged, goes_to, packet_count, is_sending}
 
 -- how many operations send
@@ -54,16 +55,17 @@ sorted-sends sorted (x ∷ xs) =
     let long = sends-cons x xs in
     omega (arith, rest, here, long)
 
-control-sends : (n : ℕ) (items : List ControlItem) → list_any is_sending items ≡ false → sends_in (control_ops n items) ≡ 0
-control-sends n [] h = refl
-control-sends n (control.Neigh at o ∷ items) h =
+control-sends : (plan : Plan) (s : HostState) (n : ℕ) (items : List ControlItem) → list_any is_sending items ≡ false → sends_in (control_ops plan s n items) ≡ 0
+control-sends plan s n [] h = refl
+control-sends plan s n (control.Neigh at o ∷ items) h =
     let parts = or_parts (is_send o) (list_any is_sending items) h in
-    let first = sends-cons (record { at = at; id = id_for 0 n; op = o }) (control_ops (n + 1) items) in
+    let behind = (turn plan s n (control.Neigh at o)).behind in
+    let first = sends-cons (record { at = at; id = id_for 0 n; op = o }) (control_ops plan behind (n + 1) items) in
     let none = ap one_if parts.0 in
-    let rest = control-sends (n + 1) items parts.1 in
+    let rest = control-sends plan behind (n + 1) items parts.1 in
     omega (arith, first, none, rest)
-control-sends n (control.Frame at bytes ∷ items) h = control-sends (n + 1) items h
-control-sends n (control.Proxy at key add ∷ items) h = control-sends (n + 1) items h
+control-sends plan s n (control.Frame at bytes ∷ items) h = control-sends plan (turn plan s n (control.Frame at bytes)).behind (n + 1) items h
+control-sends plan s n (control.Proxy at key add ∷ items) h = control-sends plan (turn plan s n (control.Proxy at key add)).behind (n + 1) items h
 
 sender-sends : (p n : ℕ) (items : List SendItem) → sends_in (sender_ops p n items) ≡ length items
 sender-sends p n [] = refl
@@ -80,9 +82,9 @@ senders-sends p (items ∷ senders) =
 
 pub merged-sends : (plan : Plan) → list_any is_sending plan.control ≡ false → sends_in (merged plan) ≡ packet_count plan
 merged-sends plan h =
-    let sorted = sorted-sends [] (control_ops 1 plan.control ++ senders_ops 1 plan.senders) in
-    let both = sends-append (control_ops 1 plan.control) (senders_ops 1 plan.senders) in
-    let host = control-sends 1 plan.control h in
+    let sorted = sorted-sends [] (control_ops plan host_start 1 plan.control ++ senders_ops 1 plan.senders) in
+    let both = sends-append (control_ops plan host_start 1 plan.control) (senders_ops 1 plan.senders) in
+    let host = control-sends plan host_start 1 plan.control h in
     let senders = senders-sends 1 plan.senders in
     omega (arith, sorted, both, host, senders)
 

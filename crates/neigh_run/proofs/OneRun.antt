@@ -6,6 +6,7 @@ use Rattle.nb_base.specs.Params.{InRange}
 use Rattle.nb_journal.specs.Keys.{is_own}
 use Rattle.nb_journal.specs.Lawful.{IsLawful, last_moment}
 use Rattle.neigh_run.specs.Merged.{Entered}
+use Rattle.neigh_run.specs.Control.{host_start}
 use Rattle.neigh_run.specs.Inline.{entered_line, own_lines, ends_own, IsInlineJournal, AreInlineJournals, logs_of, host_lines_of}
 use Rattle.neigh_run.specs.Laws.{InlineRunsAreOne, TextsTellInlineRuns}
 use Rattle.neigh_run.proofs.Entered.{operations, entered_are_one}
@@ -54,7 +55,7 @@ runs_are_one plan run other r h g =
     let mode = h.mode ∙ sym g.mode in
     let whole = h.plan ∙ sym g.plan in
     let logs = h.logs ∙ ap (λ (js : List (List Line)). logs_of plan js 1 plan.senders) journals ∙ sym g.logs in
-    let host_lines = h.host_lines ∙ ap (λ (js : List (List Line)). host_lines_of plan js 1 plan.control) journals ∙ sym g.host_lines in
+    let host_lines = h.host_lines ∙ ap (λ (js : List (List Line)). host_lines_of plan js host_start 1 plan.control) journals ∙ sym g.host_lines in
     let marks = h.marks ∙ sym g.marks in
     λ i. record { mode = mode i; plan = whole i; journals = journals i; host_lines = host_lines i; logs = logs i; marks = marks i }
 

@@ -21,6 +21,7 @@ use Rattle.nb_journal.specs.Lawful.{last_moment}
 use Rattle.nb_journal.specs.Accounts.{Fate, is_id, sends_packet, times_sent, fates_of}
 use Rattle.nb_journal.proofs.Fates.{one_fate_each}
 use Rattle.neigh_run.specs.declared.run.Run.{Run}
+use Rattle.neigh_run.specs.Control.{host_start}
 use Rattle.neigh_run.specs.Merged.{Entered, control_ops, sender_ops, senders_ops, merged, merged_for, goes_to}
 use Rattle.neigh_run.specs.Inline.{entered_line, own_lines, IsInlineJournal, AreInlineJournals, IsInlineRun, journal_at, logs_of}
 use Rattle.neigh_run.specs.Report.{is_fast}
@@ -96,8 +97,8 @@ IsPacket plan x = (before behind : List Entered) × (senders_ops 1 plan.senders 
 -- of the operations in merged order at most one has an id
 at_most_once : (plan : Plan) (id : OpId) → length plan.senders ≤ 16 → count (has_id id) (merged plan) ≤ 1
 at_most_once plan id few =
-    let all = count_all (has_id id) [] (control_ops 1 plan.control ++ senders_ops 1 plan.senders) in
-    let once = each_id_once plan.control plan.senders id few in
+    let all = count_all (has_id id) [] (control_ops plan host_start 1 plan.control ++ senders_ops 1 plan.senders) in
+    let once = each_id_once plan host_start plan.control plan.senders id few in
     omega (arith, all, once)
 
 -- those of a bucket that send a packet, which goes to this bucket
@@ -106,8 +107,8 @@ bucket_once plan x b few is sends goes =
     let whole = senders_ops 1 plan.senders in
     let test : Entered → Bool = λ y. goes_to plan.buckets b y.op && sends_it x.id y in
     let both : count (sends_it x.id) (merged_for plan b) ≡ count test (merged plan) = count_both (λ y. goes_to plan.buckets b y.op) (sends_it x.id) (merged plan) in
-    let all : count test (merged plan) ≡ 0 + count test (control_ops 1 plan.control ++ whole) = count_all test [] (control_ops 1 plan.control ++ whole) in
-    let parts = count_append test (control_ops 1 plan.control) whole in
+    let all : count test (merged plan) ≡ 0 + count test (control_ops plan host_start 1 plan.control ++ whole) = count_all test [] (control_ops plan host_start 1 plan.control ++ whole) in
+    let parts = count_append test (control_ops plan host_start 1 plan.control) whole in
     let cut : count test whole ≡ count test is.0 + count test (x ∷ is.1) = ap (count test) is.2 ∙ count_append test is.0 (x ∷ is.1) in
     let here : 1 ≤ count test (x ∷ is.1) = count_here test x is.1 (rw (goes, sends) refl) in
     let less : count test (merged plan) ≤ count (has_id x.id) (merged plan) = count_less test (has_id x.id) (merged plan) (λ y e. same_id x.id y.id y.op (both_true (goes_to plan.buckets b y.op) (sends_it x.id y) e)) in

@@ -16,7 +16,7 @@ use Rattle.neigh_run.specs.Plan.{keys_named, is_replayed}
 use Rattle.nd_codec.specs.Checksum.{words_of, pseudo_header, checksum_of}
 use Rattle.nd_codec.specs.Spelling.{header_bytes, message_bytes, solicit_bytes}
 use Rattle.neigh_run.specs.Frames.{packet_of, sent_frame, solicited_node}
-use Rattle.neigh_run.specs.Entries.{proxies_with}
+use Rattle.neigh_run.specs.Control.{proxies_with}
 use Rattle.neigh_run.specs.Report.{act_line}
 
 -- the id of a packet names it: of sender p the item of number n

@@ -6,11 +6,8 @@ use Rattle.nb_base.specs.declared.key.Key.{Key}
 use Rattle.nb_base.specs.declared.host.Host.{Host}
 use Rattle.nb_base.specs.declared.params.Params.{Params}
 use Rattle.nb_base.specs.declared.line.Line.{Line}
-use Rattle.nb_base.specs.declared.plan.ControlItem.{ControlItem}
-use Rattle.nb_base.specs.declared.plan.ControlItem.TheVariants as control
 use Rattle.nb_base.specs.Address.{mac_text, key_text}
 use Rattle.nud_machine.specs.declared.entry.Entry.{Entry}
-use Rattle.nb_journal.specs.Keys.{is_key}
 use Rattle.nb_journal.specs.Fold.{state_of, known_keys}
 use Rattle.text_codes.specs.Lines.{Words}
 use Rattle.neigh_run.specs.Spelling.{state_name}
@@ -29,12 +26,6 @@ entry_if_present h key e = if e.present then entry_words h key e ∷ [] else []
 -- the present entries behind a journal, by rank
 abbrev pub entries_after : Host → Params → List Line → List Words
 entries_after h p journal = flat_map (λ key. entry_if_present h key (state_of p journal key).entry) (known_keys journal)
-
--- a proxy entry is added once, and deleted
-abbrev pub proxies_with : List Key → ControlItem → List Key
-proxies_with keys (control.Proxy at key true) = if list_any (λ other. is_key other key) keys then keys else keys ++ key ∷ []
-proxies_with keys (control.Proxy at key false) = filter (λ other. not (is_key other key)) keys
-proxies_with keys _ = keys
 
 abbrev pub proxy_words : Host → Key → Words
 proxy_words h key = key_text key ∷ codes "dev" ∷ h.dev ∷ codes "proxy" ∷ []

@@ -14,15 +14,14 @@ use Rattle.nb_base.specs.declared.plan.Mode.TheVariants as mode
 use Rattle.nb_base.specs.declared.plan.Plan.{Plan}
 use Rattle.nb_base.specs.declared.plan.SendItem.{SendItem}
 use Rattle.nb_base.specs.declared.plan.ControlItem.{ControlItem}
-use Rattle.nb_base.specs.declared.plan.ControlItem.TheVariants as control
 use Rattle.nb_base.specs.declared.host_line.Placed.{Placed}
 use Rattle.nb_base.specs.declared.host_line.HostLine.{HostLine}
-use Rattle.nb_base.specs.declared.host_line.HostLine.TheVariants as host_line
 use Rattle.nb_journal.specs.Keys.{is_own}
 use Rattle.nb_journal.specs.Fold.{id_of, reply_of}
 use Rattle.nb_journal.specs.Lawful.{IsLawful, last_moment}
 use Rattle.neigh_run.specs.declared.run.Run.{Run}
 use Rattle.nb_base.specs.Buckets.{bucket_of}
+use Rattle.neigh_run.specs.Control.{HostState, host_start, turn}
 use Rattle.neigh_run.specs.Merged.{Entered, id_for, goes_to, merged_for}
 
 -- the lines of operations, as they were entered
@@ -87,15 +86,17 @@ abbrev pub logs_of : Plan → List (List Line) → ℕ → List (List SendItem) 
 logs_of plan journals p [] = []
 logs_of plan journals p (items ∷ senders) = log_of plan journals p 1 items ∷ logs_of plan journals (p + 1) senders
 
--- what the host did at an item (frames and proxy lines bring nothing yet)
-abbrev pub host_line_of : Plan → List (List Line) → ℕ → ControlItem → List HostLine
-host_line_of plan journals n (control.Neigh at o) = host_line.Neigh n at (placed_from 0 plan.buckets plan journals (id_for 0 n) o) ∷ []
-host_line_of plan journals n (control.Frame at bytes) = []
-host_line_of plan journals n (control.Proxy at key add) = []
+-- where the operation of an item of participant 0 stands
+abbrev pub places_of : Plan → List (List Line) → ℕ → Option Op → List Placed
+places_of plan journals n None = []
+places_of plan journals n (Some o) = placed_from 0 plan.buckets plan journals (id_for 0 n) o
 
-abbrev pub host_lines_of : Plan → List (List Line) → ℕ → List ControlItem → List HostLine
-host_lines_of plan journals n [] = []
-host_lines_of plan journals n (item ∷ items) = host_line_of plan journals n item ++ host_lines_of plan journals (n + 1) items
+-- what the host did at its items, of which the first has this number
+abbrev pub host_lines_of : Plan → List (List Line) → HostState → ℕ → List ControlItem → List HostLine
+host_lines_of plan journals s n [] = []
+host_lines_of plan journals s n (item ∷ items) =
+    let here = turn plan s n item in
+    here.lines (places_of plan journals n here.operation) ++ host_lines_of plan journals here.behind (n + 1) items
 
 -- the run of a plan by one thread: without marks, with a journal for each bucket, and everything else by the journals
 pub record IsInlineRun (whole : Plan) (run : Run) : Type 0 where
@@ -104,7 +105,7 @@ pub record IsInlineRun (whole : Plan) (run : Run) : Type 0 where
   pub buckets : length run.journals ≡ whole.buckets
   pub journals : AreInlineJournals whole 0 run.journals
   pub logs : run.logs ≡ logs_of whole run.journals 1 whole.senders
-  pub host_lines : run.host_lines ≡ host_lines_of whole run.journals 1 whole.control
+  pub host_lines : run.host_lines ≡ host_lines_of whole run.journals host_start 1 whole.control
   pub marks : run.marks ≡ []
 
 -- every run of the plan by one thread has in its first bucket a journal of more than 2^22 lines

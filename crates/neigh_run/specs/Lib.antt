@@ -1,5 +1,6 @@
 pub mod Spelling
 pub mod Frames
+pub mod Control
 pub mod Merged
 pub mod Inline
 pub mod Fates

@@ -1,6 +1,6 @@
 -- The operations of a plan, in the order in which an inline run enters them.
 use Rattle.std.specs.Prelude.{ℕ, ◌+◌, ◌*◌, Bool, true, false, nat_le, ◌==◌, if◌then◌else◌, List, [], ◌∷◌, ◌++◌, fold, filter, length, sum_by, Option, Some, None}
-use Rattle.std.specs.Option.{option_map_or, option_to_list}
+use Rattle.std.specs.Option.{option_map, option_map_or, option_to_list}
 use Rattle.nb_base.specs.declared.time.OpId.{OpId}
 use Rattle.nb_base.specs.declared.op.Op.{Op}
 use Rattle.nb_base.specs.declared.op.Op.TheVariants as op
@@ -10,6 +10,7 @@ use Rattle.nb_base.specs.declared.plan.ControlItem.{ControlItem}
 use Rattle.nb_base.specs.declared.plan.ControlItem.TheVariants as control
 use Rattle.nb_base.specs.Buckets.{bucket_of}
 use Rattle.nb_journal.specs.Keys.{key_of, is_send}
+use Rattle.neigh_run.specs.Control.{HostState, host_start, turn, control_at}
 
 -- an operation with its id and its item's moment
 pub record Entered : Type 0 where
@@ -21,16 +22,14 @@ pub record Entered : Type 0 where
 abbrev pub id_for : ℕ → ℕ → OpId
 id_for p n = record { 0 = 32 * n + p }
 
--- participant 0's operation is its line's (no frame brings one yet, and a proxy line has none)
-abbrev pub control_op : ℕ → ControlItem → Option Entered
-control_op n (control.Neigh at o) = Some (record { at = at; id = id_for 0 n; op = o })
-control_op n (control.Frame at bytes) = None
-control_op n (control.Proxy at key add) = None
+-- the operation of participant 0's item of number n, in the state before it
+abbrev pub control_op : Plan → HostState → ℕ → ControlItem → Option Entered
+control_op plan s n item = option_map (λ o. record { at = control_at item; id = id_for 0 n; op = o }) (turn plan s n item).operation
 
 -- the operations of participant 0's items, of which the first has this number
-abbrev pub control_ops : ℕ → List ControlItem → List Entered
-control_ops n [] = []
-control_ops n (item ∷ items) = option_to_list (control_op n item) ++ control_ops (n + 1) items
+abbrev pub control_ops : Plan → HostState → ℕ → List ControlItem → List Entered
+control_ops plan s n [] = []
+control_ops plan s n (item ∷ items) = option_to_list (control_op plan s n item) ++ control_ops plan (turn plan s n item).behind (n + 1) items
 
 -- the operations of a sender's packets, of which the first has this number
 abbrev pub sender_ops : ℕ → ℕ → List SendItem → List Entered
@@ -53,7 +52,7 @@ by_moment operations = fold (λ sorted x. insert x sorted) [] operations
 
 -- participant 0 goes first at equal moments, then the senders by number
 abbrev pub merged : Plan → List Entered
-merged plan = by_moment (control_ops 1 plan.control ++ senders_ops 1 plan.senders)
+merged plan = by_moment (control_ops plan host_start 1 plan.control ++ senders_ops 1 plan.senders)
 
 -- an operation without a key is applied to each bucket
 abbrev pub goes_to : ℕ → ℕ → Op → Bool

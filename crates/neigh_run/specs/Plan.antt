@@ -17,6 +17,7 @@ use Rattle.neigh_script.specs.declared.script.ScriptItem.TheVariants as item
 use Rattle.neigh_script.specs.Context.{at_of}
 use Rattle.nb_journal.specs.Keys.{key_of}
 use Rattle.nb_journal.specs.Fold.{with_key}
+pub use Rattle.neigh_run.specs.Control.{control_at}
 use Rattle.neigh_run.specs.Merged.{Entered, merged}
 
 -- ---- the plan of a script (this project's own)
@@ -104,11 +105,6 @@ is_replayed plan = has_replayed_items plan && nat_lt (length (keys_named (merged
 abbrev pub RisesFrom : ℕ → List ℕ → Type 0
 RisesFrom m [] = Unit {0}
 RisesFrom m (at ∷ moments) = (m ≤ at) × RisesFrom at moments
-
-abbrev pub control_at : ControlItem → ℕ
-control_at (control.Frame at bytes) = at
-control_at (control.Neigh at o) = at
-control_at (control.Proxy at key add) = at
 
 abbrev pub send_at : SendItem → ℕ
 send_at item = item.at

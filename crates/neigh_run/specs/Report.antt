@@ -1,5 +1,5 @@
 -- The text of a run: lines of words, in ten parts.
-use Rattle.std.specs.Prelude.{ℕ, ◌+◌, ◌∷◌, Bool, true, false, List, [], ◌++◌, map, filter, fold, length, Option, Some, None, codes, decimal}
+use Rattle.std.specs.Prelude.{ℕ, ◌+◌, ◌∷◌, Bool, true, false, List, [], ◌++◌, map, filter, length, Option, Some, None, codes, decimal}
 use Rattle.std.specs.List.{flat_map}
 use Rattle.nb_base.specs.declared.key.Key.{Key}
 use Rattle.nb_base.specs.declared.time.OpId.{OpId}
@@ -24,7 +24,8 @@ use Rattle.text_codes.specs.Lines.{Words, text_of}
 use Rattle.text_codes.specs.HexText.{hex_text}
 use Rattle.neigh_run.specs.Spelling.{dash, mode_word, host_words, op_words, id_text, id_word, reply_words, reply_part, cause_word, class_word, placed_words}
 use Rattle.neigh_run.specs.Frames.{sent_frame, group_solicitation, unicast_solicitation}
-use Rattle.neigh_run.specs.Entries.{entries_after, proxies_with, proxy_words}
+use Rattle.neigh_run.specs.Control.{host_start, state_behind}
+use Rattle.neigh_run.specs.Entries.{entries_after, proxy_words}
 
 -- `neigh 1 mode MODE buckets N senders N window MS`
 abbrev pub head_words : Run → Words
@@ -162,7 +163,7 @@ table run = flat_map (entries_after run.plan.host run.plan.params) run.journals
 
 -- the proxy entries in the end, in order of adding
 abbrev pub proxies : Run → List Key
-proxies run = fold proxies_with [] run.plan.control
+proxies run = (state_behind run.plan host_start 1 run.plan.control).proxies
 
 -- a line that says how many lines follow, and these lines
 abbrev pub counted : Words → List Words → List Words

@@ -2,6 +2,7 @@
 use Rattle.std.proofs.Common.{List, length, ◌∙◌, ap, arith}
 use Rattle.nb_base.specs.declared.plan.ControlItem.{ControlItem}
 use Rattle.nb_base.specs.declared.plan.SendItem.{SendItem}
+use Rattle.neigh_run.specs.Control.{host_start}
 use Rattle.neigh_run.specs.Merged.{control_ops}
 use Rattle.neigh_plan.specs.Merging.{lines_of}
 use Rattle.neigh_plan.proofs.Participants.{merged_first, merged_last, merged_short}
@@ -9,8 +10,8 @@ use Rattle.neigh_plan.proofs.merging.merged_lines.Goals as goal
 
 pub loop-before-init : goal.loop-before-init
 loop-before-init c =
-    c.in_ok-lines.ensures ∙ ap (λ (xs : List ControlItem). lines_of (control_ops 1 xs)) c.as_slice.ensures
-    ∙ merged_first c.args.plan.now.control c.args.plan.now.senders c.requires.control.rises
+    c.in_ok-lines.ensures ∙ ap (λ (xs : List ControlItem). lines_of (control_ops c.args.plan.now host_start 1 xs)) c.as_slice.ensures
+    ∙ merged_first c.args.plan.now c.args.plan.now.control c.args.plan.now.senders c.requires.control.rises
 
 abbrev all_merged : goal.returns-clause-value
 all_merged c =

@@ -1,5 +1,5 @@
 use Rattle.std.proofs.Common.{◌≡◌, [], take, fold}
-use Rattle.neigh_run.specs.Entries.{proxies_with}
+use Rattle.neigh_run.specs.Control.{proxies_with}
 use Rattle.neigh_report.proofs.proxies.proxies_of.Given as goal
 
 abbrev pub invariant-loop-item : goal.invariant-loop-item
