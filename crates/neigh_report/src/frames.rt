@@ -6,19 +6,9 @@ ghost use Rattle.link_codec.specs.Ethernet.{eth_bytes};
 ghost use Rattle.neigh_run.specs.Frames as frames;
 
 use crate::words::write_hex;
-use link_codec::write_eth;
-use nb_base::{Host, Key, Mac, OpId, Plan, SendItem};
+use link_codec::{type_for, write_eth};
+use nb_base::{Host, Mac, OpId, Plan, SendItem};
 use std::alloc::AllocError;
-
-/// The Ethernet type of the key's family.
-fn type_for(key: &Key) -> u16
-    ensures { result ≡ frames.type_for key.now }
-{
-    match *key {
-        Key::V4(_) => 0x0800,
-        Key::V6(_) => 0x86dd,
-    }
-}
 
 /// The packet that an id names.
 fn packet_of(plan: &Plan, id: OpId) -> Option<&SendItem>

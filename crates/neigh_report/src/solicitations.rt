@@ -7,19 +7,10 @@ ghost use Rattle.neigh_run.specs.Frames as frames;
 
 use crate::frames::write_header;
 use crate::words::write_hex;
-use link_codec::{Arp, write_arp};
+use link_codec::{ARP_TYPE, Arp, EVERYONE, IP6_TYPE, group_mac, write_arp};
 use nb_base::{Host, Key, Mac};
-use nd_codec::write_solicit;
+use nd_codec::{solicited_node, write_solicit};
 use std::alloc::AllocError;
-
-/// The Ethernet type of ARP (RFC 826).
-const ARP: u16 = 0x0806;
-
-/// The Ethernet type of IPv6 (RFC 2464 section 3).
-const IP6: u16 = 0x86dd;
-
-/// The address of all hosts on a link.
-const EVERYONE: Mac = Mac([0xff; 6]);
 
 /// The host asks who has the address.
 fn request_for(host: &Host, address: u32) -> Arp
@@ -52,23 +43,8 @@ fn write_request(
     ensures { OnOk result (string_bytes report.new ≡ string_bytes report.old ++ hex_text (frames.request_frame host.now mac.now address)) }
 {
     let packet = request_packet(host, address);
-    write_header(report, mac, &host.mac, ARP)?;
+    write_header(report, mac, &host.mac, ARP_TYPE)?;
     write_hex(report, &packet)
-}
-
-/// The solicited-node address of an IPv6 address (RFC 4291 section 2.7.1).
-fn solicited_node(address: u128) -> u128
-    ensures { result ≡ frames.solicited_node address }
-{
-    0xff02_0000_0000_0000_0000_0001_ff00_0000 + address % (1 << 24)
-}
-
-/// The Ethernet address of an IPv6 group (RFC 2464 section 7).
-fn group_mac(group: u128) -> Mac
-    ensures { result ≡ frames.group_mac group }
-{
-    let [first, second, third, last] = ((group % (1 << 32)) as u32).to_be_bytes();
-    Mac([0x33, 0x33, first, second, third, last])
 }
 
 fn solicit_packet(host: &Host, destination: u128, address: u128) -> [u8; 72]
@@ -91,7 +67,7 @@ fn write_neighbour_frame(
     ensures { OnOk result (string_bytes report.new ≡ string_bytes report.old ++ hex_text (frames.neighbour_frame host.now mac.now destination address)) }
 {
     let packet = solicit_packet(host, destination, address);
-    write_header(report, mac, &host.mac, IP6)?;
+    write_header(report, mac, &host.mac, IP6_TYPE)?;
     write_hex(report, &packet)
 }
 

@@ -15,7 +15,8 @@ use Rattle.neigh_run.specs.Merged.{Entered, id_for, merged}
 use Rattle.neigh_run.specs.Plan.{keys_named, is_replayed}
 use Rattle.nd_codec.specs.Checksum.{words_of, pseudo_header, checksum_of}
 use Rattle.nd_codec.specs.Spelling.{header_bytes, message_bytes, solicit_bytes}
-use Rattle.neigh_run.specs.Frames.{packet_of, sent_frame, solicited_node}
+use Rattle.nd_codec.specs.Packet.{solicited_node}
+use Rattle.neigh_run.specs.Frames.{packet_of, sent_frame}
 use Rattle.neigh_run.specs.Control.{proxies_with}
 use Rattle.neigh_run.specs.Report.{act_line}
 

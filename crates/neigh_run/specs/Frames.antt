@@ -1,6 +1,5 @@
 -- Frames of packets and of solicitations.
-use Rattle.std.specs.Prelude.{ℕ, ◌+◌, ◌-◌, ◌/◌, ◌%◌, ◌^◌, List, [], ◌∷◌, ◌++◌, replicate, Option, unwrap_or, slice_get, option_and_then}
-use Rattle.std.specs.Int.{w32, to_be_bytes}
+use Rattle.std.specs.Prelude.{ℕ, ◌-◌, ◌/◌, ◌%◌, List, [], ◌++◌, replicate, Option, unwrap_or, slice_get, option_and_then}
 use Rattle.std.specs.Option.{option_map_or}
 use Rattle.nb_base.specs.declared.mac.Mac.{Mac}
 use Rattle.nb_base.specs.declared.key.Key.{Key}
@@ -11,15 +10,13 @@ use Rattle.nb_base.specs.declared.plan.Plan.{Plan}
 use Rattle.nb_base.specs.declared.plan.SendItem.{SendItem}
 use Rattle.link_codec.specs.declared.arp.Arp.{Arp}
 use Rattle.link_codec.specs.Ethernet.{eth_bytes}
+use Rattle.link_codec.specs.EtherTypes.{arp_type, ip6_type, type_for}
+use Rattle.link_codec.specs.Groups.{everyone, group_mac}
 use Rattle.link_codec.specs.Arp.{arp_bytes}
+use Rattle.nd_codec.specs.Packet.{solicited_node}
 use Rattle.nd_codec.specs.Spelling.{solicit_bytes}
 
 -- ---- packets
-
--- the Ethernet type of the key's family (RFC 894, RFC 2464)
-abbrev pub type_for : Key → ℕ
-type_for (V4 address) = 0x0800
-type_for (V6 address) = 0x86dd
 
 -- a header from the host with the type of the key's family, and the payload without padding
 abbrev pub frame_to : Host → Mac → SendItem → List ℕ
@@ -35,10 +32,6 @@ sent_frame plan id mac = option_map_or (frame_to plan.host mac) (packet_of plan 
 
 -- ---- solicitations of IPv4 addresses (RFC 826; Linux, arp_solicit)
 
--- the address of all hosts on a link
-abbrev pub everyone : Mac
-everyone = record { 0 = replicate 6 0xff }
-
 -- the address that a request leaves open
 abbrev pub unknown : Mac
 unknown = record { 0 = replicate 6 0 }
@@ -49,22 +42,14 @@ request_for host address = record { op = 1; sha = host.mac; spa = unwrap_or host
 
 -- the frame in which the request goes from the host to a link address
 abbrev pub request_frame : Host → Mac → ℕ → List ℕ
-request_frame host mac address = eth_bytes mac host.mac 0x0806 ++ arp_bytes (request_for host address)
+request_frame host mac address = eth_bytes mac host.mac arp_type ++ arp_bytes (request_for host address)
 
 -- ---- solicitations of IPv6 addresses (RFC 4861 sections 4.3 and 7.2.2; Linux, ndisc_solicit)
-
--- the solicited-node address of an address: ff02::1:ff00:0 with its low 24 bits (RFC 4291 section 2.7.1)
-abbrev pub solicited_node : ℕ → ℕ
-solicited_node address = 0xff0200000000000000000001ff000000 + address % 2 ^ 24
-
--- the Ethernet address of an IPv6 group: 33:33 and the group's low 32 bits (RFC 2464 section 7)
-abbrev pub group_mac : ℕ → Mac
-group_mac group = record { 0 = 0x33 ∷ 0x33 ∷ to_be_bytes w32 (group % 2 ^ 32) }
 
 -- the frame in which a neighbour solicitation for the address goes from the host to an IPv6 destination at a link address
 -- it tells the host's link address; a host without an IPv6 address gives `::` as its own, but it has no IPv6 neighbours
 abbrev pub neighbour_frame : Host → Mac → ℕ → ℕ → List ℕ
-neighbour_frame host mac destination address = eth_bytes mac host.mac 0x86dd ++ solicit_bytes (unwrap_or host.ip6 0) destination address host.mac
+neighbour_frame host mac destination address = eth_bytes mac host.mac ip6_type ++ solicit_bytes (unwrap_or host.ip6 0) destination address host.mac
 
 -- ---- solicitations of keys
 
