@@ -1,4 +1,4 @@
-//! Tests of the base crates: addresses, the outside, codecs, captures, linked lists and the sequence lock.
+//! Tests of the base crates: addresses, the outside, codecs, captures, linked lists, timers and the sequence lock.
 #![tactic(auto)]
 
 #[cfg(test)]
@@ -15,3 +15,5 @@ mod linked_lists;
 mod outside;
 #[cfg(test)]
 mod sequence_lock;
+#[cfg(test)]
+mod timers;

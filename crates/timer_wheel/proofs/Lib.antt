@@ -1,0 +1,6 @@
+mod Digits
+mod Marking
+mod Slotted
+mod Timing
+mod Settling
+mod Visiting

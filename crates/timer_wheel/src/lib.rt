@@ -1,0 +1,11 @@
+//! Timers of numbered nodes, in a wheel of eleven levels of 64 slots.
+//!
+//! Each level stands for a digit of base 64. A node stands at the highest digit in which its due differs from the present moment, in the
+//! slot of its due's digit there, so the least due is in the first slot that has a node.
+#![tactic(auto)]
+
+mod marks;
+mod slots;
+mod wheel;
+
+pub use wheel::Wheel;
