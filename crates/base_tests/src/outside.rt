@@ -1,6 +1,6 @@
 use nb_base::Items;
 use nb_io::{
-    FileInputs, Gate, MemoryFile, MemoryInputs, MemorySink, OpenGate, OutSink, ReadFail,
+    FileInputs, Gate, Inputs, MemoryFile, MemoryInputs, MemorySink, OpenGate, OutSink, ReadFail,
     WriteFault, read_all, write_all,
 };
 use std::alloc::Global;
@@ -159,9 +159,9 @@ fn writes_to_memory(rt: HostRuntime) -> Result<(), Fail> {
 }
 
 /// What reading a file of the system answers: its length, or why it failed.
-fn length_read(
+fn length_read<I: Inputs>(
     alloc: Global,
-    inputs: &mut FileInputs,
+    inputs: &mut I,
     name: &str,
     limit: usize,
 ) -> Result<usize, ReadFail> {

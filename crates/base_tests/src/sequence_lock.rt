@@ -180,7 +180,7 @@ struct Seen {
     known: Option<Known>,
 }
 
-fn seen(core: &Core, reader: u32) -> Option<Seen> {
+fn left_of(core: &Core, reader: u32) -> Option<Seen> {
     let tries = core.tries(reader)?;
     Some(Seen {
         tries: tries.len(),
@@ -213,8 +213,8 @@ fn two_writes_and_two_reads_in_many_orders(rt: HostRuntime) -> Result<(), Fail> 
         assert_eq!(rt; shown(&core), (4, (9, 10), 3));
         let [first, second] = case.tries;
         let [known, other] = case.known;
-        assert_eq!(rt; seen(&core, 0), once(first, known), "order {number}");
-        assert_eq!(rt; seen(&core, 1), once(second, other), "order {number}");
+        assert_eq!(rt; left_of(&core, 0), once(first, known), "order {number}");
+        assert_eq!(rt; left_of(&core, 1), once(second, other), "order {number}");
     }
     Ok(())
 }
@@ -234,7 +234,7 @@ fn reader_across_a_write(rt: HostRuntime) -> Result<(), Fail> {
     ];
     assert_eq!(rt; core.run(&across), Ok(()));
     assert_eq!(rt;
-        (seen(&core, 0), core.floor(0)),
+        (left_of(&core, 0), core.floor(0)),
         (once((1, 2), None), Some(0))
     );
     let again = [
@@ -249,7 +249,7 @@ fn reader_across_a_write(rt: HostRuntime) -> Result<(), Fail> {
         last: Some((2, 2)),
         known: Some((1, (7, 8))),
     };
-    assert_eq!(rt; (seen(&core, 0), core.floor(0)), (Some(twice), Some(1)));
+    assert_eq!(rt; (left_of(&core, 0), core.floor(0)), (Some(twice), Some(1)));
     Ok(())
 }
 
