@@ -1,6 +1,6 @@
 use nb_base::{Bytes, Items};
 use nb_io::{MemoryFile, MemoryInputs, MemorySink, OpenGate};
-use neigh_replay::run;
+use neigh_replay::{NoWords, answer, run};
 use std::alloc::{AllocError, Global};
 use std::fmt::Write;
 use std::test::Fail;
@@ -479,5 +479,32 @@ fn a_script_of_one_byte_more_is_too_long(rt: HostRuntime) -> Result<(), Fail> {
     );
     assert_eq!(rt; status, 8);
     assert_eq!(rt; err.bytes(), b"neigh: too long: s\n".as_slice());
+    Ok(())
+}
+
+#[test]
+fn words_that_are_not_text_and_no_memory_for_words(rt: HostRuntime) -> Result<(), Fail> {
+    let alloc = rt.alloc();
+    let cases = [
+        (NoWords::NotText, 2, USAGE),
+        (NoWords::Memory, 1, "neigh: no memory\n"),
+    ];
+    for (why, expected, line) in cases {
+        let mut inputs = one_file(alloc, bytes(alloc, HOST)?, &[])?;
+        let mut out = MemorySink::new(alloc, 10, 10, &[])?;
+        let mut err = MemorySink::new(alloc, 200, 200, &[])?;
+        let status = answer(
+            &rt,
+            alloc,
+            Err(why),
+            &mut inputs,
+            &mut out,
+            &mut err,
+            &OpenGate,
+        );
+        assert_eq!(rt; status, expected, "{line}");
+        assert_eq!(rt; err.bytes(), line.as_bytes());
+        assert!(rt; out.bytes().is_empty(), "{line}");
+    }
     Ok(())
 }
