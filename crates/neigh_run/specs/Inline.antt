@@ -1,5 +1,5 @@
 -- The one run of a plan by one thread.
-use Rattle.std.specs.Prelude.{◌≡◌, ℕ, zero, suc, ◌+◌, ◌<◌, Bool, true, false, ◌==◌, if◌then◌else◌, List, [], ◌∷◌, ◌++◌, map, filter, length, Option, Some, None, unwrap_or, slice_index_or}
+use Rattle.std.specs.Prelude.{◌≡◌, ℕ, zero, suc, ◌+◌, Bool, true, false, ◌==◌, if◌then◌else◌, List, [], ◌∷◌, ◌++◌, map, filter, length, Option, Some, None, unwrap_or, slice_index_or}
 use Rattle.std.specs.Option.{option_map_or}
 use Rattle.nb_base.specs.declared.time.OpId.{OpId}
 use Rattle.nb_base.specs.declared.params.Params.{Params}
@@ -107,7 +107,3 @@ pub record IsInlineRun (whole : Plan) (run : Run) : Type 0 where
   pub logs : run.logs ≡ logs_of whole run.journals 1 whole.senders
   pub host_lines : run.host_lines ≡ host_lines_of whole run.journals host_start 1 whole.control
   pub marks : run.marks ≡ []
-
--- every run of the plan by one thread has in its first bucket a journal of more than 2^22 lines
-abbrev pub IsTooLarge : Plan → Type 0
-IsTooLarge plan = (run : Run) → IsInlineRun plan run → 4194304 < length (journal_at run.journals 0)
