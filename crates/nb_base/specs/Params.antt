@@ -2,7 +2,7 @@
 use Rattle.std.specs.Int.{IsInRange}
 use Rattle.nb_base.specs.declared.params.Params.{Params}
 
--- the defaults that arp(7) gives; the times and numbers of probes are those of RFC 4861 section 10 too
+-- the defaults that arp(7) gives; the times and numbers of probes are those of RFC 4861 section 10 too; the bytes that may wait are this project's own, after unres_qlen_bytes
 abbrev pub default_params : Params
 default_params = record {
   gc_thresh1 = 128;
@@ -18,7 +18,7 @@ default_params = record {
   ucast_solicit = 3;
   proxy_delay = 800;
   proxy_qlen = 64;
-  unres_qlen = 3;
+  unres_qlen_bytes = 4_096;
 }
 
 -- each parameter is in its range, ends included (this project's own ranges; the three thresholds may stand in any order)
@@ -36,4 +36,4 @@ pub record InRange (params : Params) : Type 0 where
   pub ucast_solicit : IsInRange 0 10 params.ucast_solicit
   pub proxy_delay : IsInRange 10 10_000_000 params.proxy_delay
   pub proxy_qlen : IsInRange 1 1_024 params.proxy_qlen
-  pub unres_qlen : IsInRange 1 64 params.unres_qlen
+  pub unres_qlen_bytes : IsInRange 256 16_448 params.unres_qlen_bytes

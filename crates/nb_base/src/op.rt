@@ -4,9 +4,10 @@ use crate::{Key, Mac, Nud};
 /// An operation. `Timer`, `Sweep` and `Collect` are a bucket's own; every other one is entered by a participant.
 #[derive(Clone, Copy, Debug, PartialEq, Eq)]
 pub enum Op {
-    /// A packet to the key.
+    /// A packet to the key, with the length of its payload in bytes.
     Send {
         key: Key,
+        len: u32,
     },
     /// An ARP packet that was heard (RFC 826). `make` holds for a request for the host's address, `solicited` for a reply to the host.
     Arp {

@@ -2,7 +2,7 @@
 /// The parameters of a table, named as in arp(7). Times are in milliseconds.
 #[derive(Clone, Copy, Debug, PartialEq, Eq)]
 pub struct Params {
-    /// No sweep below this number of entries.
+    /// A sweep that sees fewer entries than this removes none.
     pub gc_thresh1: u32,
     /// From this number of entries on, making one may force a pass.
     pub gc_thresh2: u32,
@@ -28,12 +28,12 @@ pub struct Params {
     pub proxy_delay: u32,
     /// How many proxied requests may wait.
     pub proxy_qlen: u32,
-    /// How many packets may wait for an address.
-    pub unres_qlen: u32,
+    /// How many bytes of packets may wait for an address; a single packet may always.
+    pub unres_qlen_bytes: u32,
 }
 
 impl Params {
-    /// The defaults of arp(7).
+    /// The defaults of arp(7), but for the bytes that may wait, which are this project's own.
     pub const DEFAULT: Params = Params {
         gc_thresh1: 128,
         gc_thresh2: 512,
@@ -48,11 +48,11 @@ impl Params {
         ucast_solicit: 3,
         proxy_delay: 800,
         proxy_qlen: 64,
-        unres_qlen: 3,
+        unres_qlen_bytes: 4_096,
     };
 }
 
-/// The defaults of arp(7), which are in the ranges that every call with parameters asks for.
+/// These defaults, which are in the ranges that every call with parameters asks for.
 impl Default for Params {
     ghost use Rattle.std.specs.Prelude.{◌≡◌};
     ghost use Rattle.nb_base.specs.Params.{InRange, default_params};
