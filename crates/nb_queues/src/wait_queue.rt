@@ -1,63 +1,82 @@
 //! The packets that wait for an address.
-ghost use Rattle.std.specs.Prelude.{◌≡◌, ◌≤◌, [], ◌∷◌, ◌++◌, length, is_some, option_to_list, IfOk, ◌↔◌, IsTrue};
-ghost use Rattle.nb_queues.specs.Queue.{is_full};
+ghost use Rattle.std.specs.Prelude.{◌≡◌, ◌*◌, ◌<◌, ◌≤◌, [], ◌∷◌, ◌++◌, length, option_to_list, IfOk, ◌↔◌};
+ghost use Rattle.nb_queues.specs.Queue.{largest, total_size};
 
 use circular_buffer::HeapCircularBuffer;
 use nb_base::OpId;
 use std::alloc::{AllocError, Global};
 use std::marker::Model;
 
-/// Packets that wait for a neighbour's address, the oldest first. A full queue gives up its oldest
-/// (RFC 4861 section 7.2.2). Contracts see the packets' numbers and how many may wait, which is at least 1.
+/// Packets that wait for a neighbour's address, at most 64, the oldest first (RFC 4861 section 7.2.2).
+/// Contracts see the list of pairs of a packet's number and its size.
 #[derive(Drop)]
 pub struct WaitQueue {
-    packets: HeapCircularBuffer<OpId>,
+    packets: HeapCircularBuffer<(OpId, u32)>,
+    total: u32,
 }
 
 impl Model for WaitQueue {
-    ghost use Rattle.std.specs.Prelude.{◌≤◌, ◌<◌, ◌^◌, length};
-    ghost use Rattle.nb_queues.specs.Queue.{Queue};
+    ghost use Rattle.std.specs.Prelude.{◌≡◌, ◌≤◌, length, List, IsTrue};
+    ghost use Rattle.nb_queues.specs.Queue.{Packet, total_size, are_small};
 
-    ghost Value = { Queue };
+    ghost Value = { List Packet };
 
-    ghost view = { λ q. record { ids = q.packets.items; capacity = q.packets.capacity } };
+    ghost view = { λ q. q.packets.items };
 
-    ghost invariant = { λ q. (1 ≤ q.packets.capacity) × (q.packets.capacity < 2 ^ 32) × (length q.packets.items ≤ q.packets.capacity) };
+    ghost invariant = { λ q. (q.packets.capacity ≡ 64) × (length q.packets.items ≤ 64) × IsTrue (are_small q.packets.items) × (q.total ≡ total_size q.packets.items) };
 }
 
 impl WaitQueue {
-    /// An empty queue in which so many packets may wait. Only this call takes memory.
-    pub fn new(alloc: Global, capacity: u32) -> Result<WaitQueue, AllocError>
-        requires { 1 ≤ capacity }
-        ensures { IfOk result (λ q. q ≡ record { ids = []; capacity = capacity }) }
+    /// The most packets that wait.
+    pub const MOST: u32 = 64;
+
+    /// The size of the largest packet: 1,500 bytes, and 256 more.
+    pub const LARGEST: u32 = 1_756;
+
+    /// An empty queue. Only this call takes memory.
+    pub fn new(alloc: Global) -> Result<WaitQueue, AllocError>
+        ensures { IfOk result (λ q. q ≡ []) }
     {
-        let packets = HeapCircularBuffer::with_capacity(alloc, capacity as usize)?;
-        Ok(WaitQueue { packets })
+        let packets = HeapCircularBuffer::with_capacity(alloc, WaitQueue::MOST as usize)?;
+        Ok(WaitQueue { packets, total: 0 })
     }
 
-    /// Puts a packet behind the others. Exactly where as many wait as may, the oldest comes off and is answered.
-    pub fn push(&mut self, id: OpId) -> Option<OpId>
-        ensures ids { option_to_list result ++ self.new.ids ≡ self.old.ids ++ id ∷ [] }
-        ensures oldest { is_some result ≡ is_full self.old }
-        ensures capacity { self.new.capacity ≡ self.old.capacity }
+    /// Puts a packet behind the others, of which there are fewer than 64. No packet is larger than the
+    /// largest payload and 256 bytes.
+    pub fn push(&mut self, id: OpId, size: u32)
+        requires room { length self.old < 64 }
+        requires small { size ≤ largest }
+        ensures { self.new ≡ self.old ++ (id, size) ∷ [] }
     {
-        self.packets.push_back(id)
+        let _none = self.packets.push_back((id, size));
+        self.total += size;
     }
 
     /// Takes the oldest packet off: `None` exactly where none waits.
-    pub fn pop(&mut self) -> Option<OpId>
-        ensures ids { option_to_list result ++ self.new.ids ≡ self.old.ids }
-        ensures none { (result ≡ None) ↔ (self.old.ids ≡ []) }
-        ensures capacity { self.new.capacity ≡ self.old.capacity }
+    pub fn pop(&mut self) -> Option<(OpId, u32)>
+        ensures packets { option_to_list result ++ self.new ≡ self.old }
+        ensures none { (result ≡ None) ↔ (self.old ≡ []) }
     {
-        self.packets.pop_front()
+        let oldest = self.packets.pop_front();
+        if let Some((_id, size)) = oldest {
+            self.total -= size;
+        }
+        oldest
     }
 
     /// How many packets wait.
     pub fn len(&self) -> u32
-        ensures len { result ≡ length self.now.ids }
-        ensures within { result ≤ self.now.capacity }
+        ensures len { result ≡ length self.now }
+        ensures within { result ≤ 64 }
     {
         self.packets.len() as u32
+    }
+
+    /// The sizes of the packets that wait, together.
+    pub fn total(&self) -> u32
+        ensures total { result ≡ total_size self.now }
+        ensures within { result ≤ 64 * largest }
+    {
+        self.total
     }
 }

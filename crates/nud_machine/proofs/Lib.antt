@@ -1,4 +1,5 @@
 pub mod Same
+pub mod Room
 pub mod Leaving
 pub mod Keeps
 pub mod Rises

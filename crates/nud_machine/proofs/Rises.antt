@@ -1,7 +1,7 @@
 -- The dues and the other moments that a step leaves.
 use Rattle.std.proofs.Common.{◌≡◌, ◌≢◌, ◌≤◌, ◌⊎◌, inl, inr, ℕ, ◌+◌, Bool, true, is_some, Option, Some, sym, ◌∙◌, arith}
 use Rattle.nb_base.specs.declared.mac.Mac.{Mac}
-use Rattle.nb_base.specs.declared.time.OpId.{OpId}
+use Rattle.nb_queues.specs.Queue.{Packet}
 use Rattle.nb_base.specs.declared.nud.Nud.{Nud}
 use Rattle.nb_base.specs.declared.nud.Nud.TheVariants as nud
 use Rattle.nb_base.specs.declared.params.Params.{Params}
@@ -28,7 +28,7 @@ fire_rises p at s n r due h = grind arith
 update_by_rises : (p : Params) (at : ℕ) (s : State) (given : Option Mac) (new : Nud) (how : Manner) (rule : Rule) → InRange p → (due : ℕ) → (update_by rule p at s given new how).state.entry.due ≡ Some due → (s.entry.due ≡ Some due) ⊎ (at + 10 ≤ due)
 update_by_rises p at s given new how rule r due h = grind arith
 
-send_rises : (p : Params) (at : ℕ) (id : OpId) (s : State) (n : Nud) → InRange p → (due : ℕ) → (send_in n p at id s).state.entry.due ≡ Some due → (s.entry.due ≡ Some due) ⊎ (at + 10 ≤ due)
+send_rises : (p : Params) (at : ℕ) (id : Packet) (s : State) (n : Nud) → InRange p → (due : ℕ) → (send_in n p at id s).state.entry.due ≡ Some due → (s.entry.due ≡ Some due) ⊎ (at + 10 ≤ due)
 send_rises p at id s n r due h = grind arith
 
 router_by_due : (rule : Rule) (router : Bool) (e : Entry) → (router_by rule router e).due ≡ e.due
@@ -38,7 +38,7 @@ stamp_due : (at : ℕ) (before : Entry) (done : Stepped) → (stamp at before do
 stamp_due at before done = grind arith
 
 move_rises : (p : Params) (at : ℕ) (s : State) (e : Event) → InRange p → (due : ℕ) → (move p at s e).state.entry.due ≡ Some due → (s.entry.due ≡ Some due) ⊎ (at + 10 ≤ due)
-move_rises p at s (event.Send id) r due h = send_rises p at id (record s { entry = record s.entry { used = at } }) s.entry.nud r due h
+move_rises p at s (event.Send id size) r due h = send_rises p at (id, size) (record s { entry = record s.entry { used = at } }) s.entry.nud r due h
 move_rises p at s (event.Arp mac solicited) r due h = update_by_rises p at s (Some mac) (heard_as solicited) (arp_manner p at s.entry) (rule_for s.entry (Some mac) (heard_as solicited) (arp_manner p at s.entry)) r due h
 move_rises p at s (event.Ns mac) r due h = update_by_rises p at s (Some mac) nud.Stale ns_manner (rule_for s.entry (Some mac) nud.Stale ns_manner) r due h
 move_rises p at s (event.Na mac router solicited overrides) r due h =
@@ -74,7 +74,7 @@ fire_in_run p at s n small h = record { confirmed = grind arith; updated = grind
 update_by_in_run : (p : Params) (at : ℕ) (s : State) (given : Option Mac) (new : Nud) (how : Manner) (rule : Rule) → at ≤ greatest → IsInRun s.entry → IsInRun (update_by rule p at s given new how).state.entry
 update_by_in_run p at s given new how rule small h = record { confirmed = grind arith; updated = grind arith; used = grind arith }
 
-send_in_run : (p : Params) (at : ℕ) (id : OpId) (s : State) (n : Nud) → at ≤ greatest → IsInRun s.entry → IsInRun (send_in n p at id s).state.entry
+send_in_run : (p : Params) (at : ℕ) (id : Packet) (s : State) (n : Nud) → at ≤ greatest → IsInRun s.entry → IsInRun (send_in n p at id s).state.entry
 send_in_run p at id s n small h = record { confirmed = grind arith; updated = grind arith; used = grind arith }
 
 router_by_in_run : (rule : Rule) (router : Bool) (e : Entry) → IsInRun e → IsInRun (router_by rule router e)
@@ -87,7 +87,7 @@ confirm_in_run : (p : Params) (at : ℕ) (s : State) → at ≤ greatest → IsI
 confirm_in_run p at s small h = record { confirmed = grind arith; updated = grind arith; used = grind arith }
 
 move_in_run : (p : Params) (at : ℕ) (s : State) (e : Event) → at ≤ greatest → IsInRun s.entry → IsInRun (move p at s e).state.entry
-move_in_run p at s (event.Send id) small h = send_in_run p at id (record s { entry = record s.entry { used = at } }) s.entry.nud small (record { confirmed = h.confirmed; updated = h.updated; used = small })
+move_in_run p at s (event.Send id size) small h = send_in_run p at (id, size) (record s { entry = record s.entry { used = at } }) s.entry.nud small (record { confirmed = h.confirmed; updated = h.updated; used = small })
 move_in_run p at s (event.Arp mac solicited) small h = update_by_in_run p at s (Some mac) (heard_as solicited) (arp_manner p at s.entry) (rule_for s.entry (Some mac) (heard_as solicited) (arp_manner p at s.entry)) small h
 move_in_run p at s (event.Ns mac) small h = update_by_in_run p at s (Some mac) nud.Stale ns_manner (rule_for s.entry (Some mac) nud.Stale ns_manner) small h
 move_in_run p at s (event.Na mac router solicited overrides) small h =

@@ -3,6 +3,7 @@ use Rattle.std.proofs.Common.{◌≡◌, true, false, ℕ, [], ◌∷◌, Some, 
 use Rattle.nb_base.specs.declared.mac.Mac.{Mac}
 use Rattle.nb_base.specs.declared.time.OpId.{OpId}
 use Rattle.nb_base.specs.declared.nud.Nud.TheVariants as nud
+use Rattle.nb_base.specs.declared.params.Params.{Params}
 use Rattle.nb_base.specs.Params.{default_params}
 use Rattle.nud_machine.specs.declared.act.Act.TheVariants.{Wait, Drop, SolicitUnicast}
 use Rattle.nud_machine.specs.declared.act.Cause.TheVariants.{QueueFull, Unresolved}
@@ -19,6 +20,10 @@ mac_b = record { 0 = 0x02 ∷ 0x00 ∷ 0x00 ∷ 0x00 ∷ 0x00 ∷ 0x0b ∷ [] }
 
 abbrev packet : ℕ → OpId
 packet n = record { 0 = n }
+
+-- a packet of one byte is sent
+abbrev sends : ℕ → Event
+sends n = event.Send (packet n) 257
 
 abbrev then_step : ℕ → Event → State → State
 then_step at e s = (step default_params at s e).state
@@ -40,7 +45,7 @@ arp_past_locktime = refl
 
 -- the first packet to an unknown address waits for a solicitation
 abbrev asked : State
-asked = then_step 0 (event.Send (packet 33)) (made 0)
+asked = then_step 0 (sends 33) (made 0)
 
 abbrev fired_twice : State
 fired_twice = then_step 2_000 event.Timer (then_step 1_000 event.Timer asked)
@@ -52,12 +57,32 @@ unresolved_after_three_probes = refl
 failed_after_three_probes : (then_step 3_000 event.Timer fired_twice).entry.nud ≡ nud.Failed
 failed_after_three_probes = refl
 
--- three may wait; a fourth drops the oldest
-abbrev three : State
-three = then_step 0 (event.Send (packet 97)) (then_step 0 (event.Send (packet 65)) asked)
+-- 800 bytes may wait: three packets of one byte do, and a fourth drops the oldest
+abbrev narrow : Params
+narrow = record default_params { unres_qlen_bytes = 800 }
 
-full_queue_drops_its_oldest : (step default_params 0 three (event.Send (packet 129))).acts ≡ Drop (packet 33) QueueFull ∷ Wait (packet 129) ∷ []
-full_queue_drops_its_oldest = refl
+abbrev then_narrow : ℕ → State → State
+then_narrow n s = (step narrow 0 s (sends n)).state
+
+fourth_drops_the_oldest : (step narrow 0 (then_narrow 97 (then_narrow 65 (then_narrow 33 (made 0)))) (sends 129)).acts ≡ Drop (packet 33) QueueFull ∷ Wait (packet 129) ∷ []
+fourth_drops_the_oldest = refl
+
+-- 2,000 bytes may wait: a packet of 1,500 drops two of 500
+abbrev wider : Params
+wider = record default_params { unres_qlen_bytes = 2_000 }
+
+abbrev two_wait : State
+two_wait = (step wider 0 (step wider 0 (made 0) (event.Send (packet 33) 756)).state (event.Send (packet 65) 756)).state
+
+bytes_push_out_two : (step wider 0 two_wait (event.Send (packet 97) 1_756)).acts ≡ Drop (packet 33) QueueFull ∷ Drop (packet 65) QueueFull ∷ Wait (packet 97) ∷ []
+bytes_push_out_two = refl
+
+-- 1,000 bytes may wait: a packet of 1,500 waits alone, and one of a single byte drops it
+abbrev tight : Params
+tight = record default_params { unres_qlen_bytes = 1_000 }
+
+large_packet_waits_alone : (step tight 0 (step tight 0 (made 0) (event.Send (packet 33) 1_756)).state (sends 65)).acts ≡ Drop (packet 33) QueueFull ∷ Wait (packet 65) ∷ []
+large_packet_waits_alone = refl
 
 -- a REACHABLE entry's timer finds the confirmation at its end, and ten milliseconds later finds it past
 abbrev reachable : State
@@ -71,7 +96,7 @@ reachable_turns_stale = refl
 
 -- a packet makes a STALE entry DELAY, and its timer asks the address itself
 abbrev delayed : State
-delayed = then_step 0 (event.Send (packet 33)) stale
+delayed = then_step 0 (sends 33) stale
 
 delay_then_unicast_probe : (step default_params 5_000 delayed event.Timer).acts ≡ SolicitUnicast mac_a ∷ []
 delay_then_unicast_probe = refl

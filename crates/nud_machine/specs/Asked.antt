@@ -5,6 +5,7 @@ use Rattle.nb_base.specs.declared.nud.Nud.TheVariants as nud
 use Rattle.nud_machine.specs.declared.entry.Entry.{Entry}
 use Rattle.nud_machine.specs.declared.event.Event.{Event}
 use Rattle.nud_machine.specs.declared.event.Event.TheVariants as event
+use Rattle.nud_machine.specs.State.{is_size}
 
 -- the last moment of a run, 30 days
 abbrev pub greatest : ℕ
@@ -28,6 +29,11 @@ is_settable _ = false
 abbrev pub NamesSettable : Event → Type 0
 NamesSettable (event.Admin mac new) = IsTrue (is_settable new)
 NamesSettable _ = Unit {0}
+
+-- a packet that the event brings has a packet's size
+abbrev pub BringsSized : Event → Type 0
+BringsSized (event.Send id size) = IsTrue (is_size size)
+BringsSized _ = Unit {0}
 
 -- a timer fires at the entry's due
 abbrev pub FiresAtDue : Event → ℕ → Entry → Type 0

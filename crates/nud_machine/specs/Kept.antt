@@ -2,7 +2,7 @@
 use Rattle.std.specs.Prelude.{List, Option}
 use Rattle.nb_base.specs.declared.mac.Mac.{Mac}
 use Rattle.nb_base.specs.declared.nud.Nud.{Nud}
-use Rattle.nb_queues.specs.Queue.{Queue}
+use Rattle.nb_queues.specs.Queue.{Packet}
 use Rattle.nud_machine.specs.declared.entry.Entry.{Entry}
 use Rattle.nud_machine.specs.declared.act.Act.{Act}
 use Rattle.nud_machine.specs.declared.news.News.{News}
@@ -12,12 +12,12 @@ use Rattle.nud_machine.specs.State.{State, Stepped}
 use Rattle.nud_machine.specs.Update.{Manner, Rule, SetByHand, NoAddress, MayNotReplace, NothingNew, IsTaken}
 
 -- an entry beside its queue
-abbrev pub state_of : Entry → Queue → State
-state_of entry queue = record { entry = entry; waiting = queue.ids }
+abbrev pub state_of : Entry → List Packet → State
+state_of entry waiting = record { entry = entry; waiting = waiting }
 
 -- an entry, its queue and the list of acts
-abbrev pub stepped : Entry → Queue → List Act → Stepped
-stepped entry queue acts = record { state = state_of entry queue; acts = acts }
+abbrev pub stepped : Entry → List Packet → List Act → Stepped
+stepped entry waiting acts = record { state = state_of entry waiting; acts = acts }
 
 -- news of an address and a state, meant so
 abbrev pub news_of : Option Mac → Nud → Manner → News

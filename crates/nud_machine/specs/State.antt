@@ -1,11 +1,12 @@
 -- An entry with its waiting packets, and what holds of it between steps.
-use Rattle.std.specs.Prelude.{◌≡◌, ◌≤◌, ℕ, Bool, true, false, ◌==◌, bytes_eq, is_some, IsSome, List, [], map, length, Option, Some, None}
+use Rattle.std.specs.Prelude.{◌≡◌, ℕ, Bool, true, false, ◌&&◌, ◌||◌, ◌==◌, nat_le, bytes_eq, is_some, IsSome, List, [], map, length, Option, Some, None}
+use Rattle.std.specs.List.{list_all}
 use Rattle.nb_base.specs.declared.mac.Mac.{Mac}
-use Rattle.nb_base.specs.declared.time.OpId.{OpId}
 use Rattle.nb_base.specs.declared.nud.Nud.{Nud}
 use Rattle.nb_base.specs.declared.nud.Nud.TheVariants as nud
 use Rattle.nb_base.specs.declared.params.Params.{Params}
 use Rattle.nb_base.specs.Nud.{bits, is_valid, in_timer}
+use Rattle.nb_queues.specs.Queue.{Packet, total_size, largest}
 use Rattle.nud_machine.specs.declared.entry.Entry.{Entry}
 use Rattle.nud_machine.specs.declared.act.Act.{Act}
 use Rattle.nud_machine.specs.declared.act.Act.TheVariants.{Transmit, Drop}
@@ -14,7 +15,7 @@ use Rattle.nud_machine.specs.declared.act.Cause.{Cause}
 -- an entry and the packets that wait for it, the oldest first
 pub record State : Type 0 where
   pub entry : Entry
-  pub waiting : List OpId
+  pub waiting : List Packet
 
 -- a state, and the acts on the way to it
 pub record Stepped : Type 0 where
@@ -48,13 +49,13 @@ abbrev pub empties : Entry → List Act → Stepped
 empties entry acts = record { state = record { entry = entry; waiting = [] }; acts = acts }
 
 -- the packets go out to the address in queue order
-abbrev pub transmits : Option Mac → List OpId → List Act
-transmits None ids = []
-transmits (Some mac) ids = map (λ id. Transmit id mac) ids
+abbrev pub transmits : Option Mac → List Packet → List Act
+transmits None packets = []
+transmits (Some mac) packets = map (λ packet. Transmit packet.0 mac) packets
 
 -- the packets are dropped in queue order
-abbrev pub drops : Cause → List OpId → List Act
-drops cause ids = map (λ id. Drop id cause) ids
+abbrev pub drops : Cause → List Packet → List Act
+drops cause packets = map (λ packet. Drop packet.0 cause) packets
 
 -- an entry enters FAILED without address and due
 abbrev pub entry_failed : Entry → Entry
@@ -68,8 +69,21 @@ same_mac _ _ = false
 abbrev pub same_nud : Nud → Nud → Bool
 same_nud a b = bits a == bits b
 
+-- the size of a packet: its payload of 1 to 1,500 bytes, and 256 more (this project's own, after the size that Linux counts for a packet)
+abbrev pub is_size : ℕ → Bool
+is_size size = nat_le 257 size && nat_le size largest
+
+-- at most as many bytes wait as may, or a packet waits alone
+abbrev pub fits_in : ℕ → List Packet → Bool
+fits_in bytes waiting = nat_le (total_size waiting) bytes || nat_le (length waiting) 1
+
+-- what waits has room: each packet has a packet's size, and they are no more bytes than may wait, or one packet waits alone
+pub record HasRoom (p : Params) (waiting : List Packet) : Type 0 where
+  pub sizes : list_all (λ packet. is_size packet.1) waiting ≡ true
+  pub bytes : fits_in p.unres_qlen_bytes waiting ≡ true
+
 -- packets wait only in INCOMPLETE
-abbrev pub waits_in : Nud → List OpId → Type 0
+abbrev pub waits_in : Nud → List Packet → Type 0
 waits_in nud.Incomplete waiting = Unit {0}
 waits_in _ waiting = waiting ≡ []
 
@@ -84,4 +98,4 @@ pub record IsSoundEntry (e : Entry) : Type 0 where
 pub record IsSound (p : Params) (s : State) : Type 0 where
   pub entry : IsSoundEntry s.entry
   pub waits : waits_in s.entry.nud s.waiting
-  pub few : length s.waiting ≤ p.unres_qlen
+  pub room : HasRoom p s.waiting

@@ -44,7 +44,7 @@ advertise p at s mac router new how =
 
 -- each event by itself
 abbrev pub move : Params → ℕ → State → Event → Stepped
-move p at s (event.Send id) = send p at id s
+move p at s (event.Send id size) = send p at (id, size) s
 move p at s (event.Arp mac solicited) = update p at s (Some mac) (heard_as solicited) (arp_manner p at s.entry)
 move p at s (event.Ns mac) = update p at s (Some mac) nud.Stale ns_manner
 move p at s (event.Na mac router solicited overrides) = advertise p at s mac router (heard_as solicited) (na_manner overrides)

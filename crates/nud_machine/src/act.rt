@@ -3,7 +3,7 @@ use nb_base::{Mac, OpId};
 /// Why a packet was dropped.
 #[derive(Clone, Copy, Debug, PartialEq, Eq)]
 pub enum Cause {
-    /// It was the oldest of a full waiting queue.
+    /// It had waited longest when there were too many bytes for a further packet.
     QueueFull,
     /// The address isn't known and no probe may be sent for it.
     NoProbes,

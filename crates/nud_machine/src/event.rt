@@ -3,8 +3,11 @@ use nb_base::{Mac, Nud, OpId};
 /// What happens to a present entry.
 #[derive(Clone, Copy, Debug, PartialEq, Eq)]
 pub enum Event {
-    /// A packet is to be sent.
-    Send(OpId),
+    /// A packet is to be sent, which counts for so many bytes where it waits.
+    Send {
+        id: OpId,
+        size: u32,
+    },
     /// An ARP packet of the neighbour was heard; a reply to the host is solicited.
     Arp {
         mac: Mac,

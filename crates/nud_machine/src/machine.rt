@@ -1,11 +1,11 @@
 //! One step of an entry's machine.
-ghost use Rattle.std.specs.Prelude.{◌≡◌, ◌≤◌, [], length, List, IsTrue};
+ghost use Rattle.std.specs.Prelude.{◌≡◌, ◌≤◌, [], List, IsTrue};
 ghost use Rattle.nb_base.specs.Params.{InRange};
-ghost use Rattle.nb_queues.specs.Queue.{Queue};
+ghost use Rattle.nb_queues.specs.Queue.{Packet};
 ghost use Rattle.nud_machine.specs.declared.act.Act.{Act};
-ghost use Rattle.nud_machine.specs.Asked.{greatest, IsInRun, NamesSettable, FiresAtDue};
+ghost use Rattle.nud_machine.specs.Asked.{greatest, IsInRun, NamesSettable, BringsSized, FiresAtDue};
 ghost use Rattle.nud_machine.specs.Kept.{state_of, stepped};
-ghost use Rattle.nud_machine.specs.State.{IsSound, waits_in};
+ghost use Rattle.nud_machine.specs.State.{HasRoom, IsSound, waits_in};
 ghost use Rattle.nud_machine.specs.Step as spec;
 
 use crate::news::{News, same_mac, same_nud};
@@ -18,6 +18,7 @@ use nb_base::{Moment, Params};
 use nb_queues::WaitQueue;
 
 /// What the event does, but for the moment of the last change.
+#[tactic(auto, using(crate::proofs::Room::few_wait))]
 fn apply(
     entry: &mut Entry,
     params: &Params,
@@ -29,15 +30,14 @@ fn apply(
     requires params { InRange params.now }
     requires now { at ≤ greatest }
     requires moments { IsInRun entry.old }
-    requires waits { waits_in entry.old.nud waiting.old.ids }
-    requires few { length waiting.old.ids ≤ params.now.unres_qlen }
-    requires capacity { waiting.old.capacity ≡ params.now.unres_qlen }
+    requires waits { waits_in entry.old.nud waiting.old }
+    requires sized { BringsSized event.now }
+    requires room { HasRoom params.now waiting.old }
     requires none { acts.old ≡ [] }
     ensures step { stepped entry.new waiting.new acts.new ≡ spec.move params.now at (state_of entry.old waiting.old) event.now }
-    ensures capacity { waiting.new.capacity ≡ waiting.old.capacity }
 {
     match *event {
-        Event::Send(id) => send(entry, params, at, id, waiting, acts),
+        Event::Send { id, size } => send(entry, params, at, (id, size), waiting, acts),
         Event::Arp { mac, solicited } => {
             let news = News::arp(entry, params, at, mac, solicited);
             let _rule = update(entry, params, at, &news, waiting, acts);
@@ -72,7 +72,7 @@ fn apply(
 
 /// An entry that is present and whose state or address changed was updated now.
 fn stamp(entry: &mut Entry, before: &Entry, at: Moment)
-    ensures { (queue : Queue) (acts : List Act) → stepped entry.new queue acts ≡ spec.stamp at before.now (stepped entry.old queue acts) }
+    ensures { (packets : List Packet) (acts : List Act) → stepped entry.new packets acts ≡ spec.stamp at before.now (stepped entry.old packets acts) }
 {
     if entry.present && !(same_nud(entry.nud, before.nud) && same_mac(entry.mac, before.mac)) {
         entry.updated = at;
@@ -91,10 +91,9 @@ fn run(
     requires params { InRange params.now }
     requires now { at ≤ greatest }
     requires moments { IsInRun entry.old }
+    requires sized { BringsSized event.now }
     requires sound { IsSound params.now (state_of entry.old waiting.old) }
-    requires capacity { waiting.old.capacity ≡ params.now.unres_qlen }
     ensures step { stepped entry.new waiting.new acts.new ≡ spec.step params.now at (state_of entry.old waiting.old) event.now }
-    ensures capacity { waiting.new.capacity ≡ waiting.old.capacity }
 {
     let before = *entry;
     acts.clear();
@@ -106,7 +105,8 @@ fn run(
 /// acts that it brings, which replace those of the step before. It takes no memory (RFC 4861 section
 /// 7.3 and appendix C; Linux, net/core/neighbour.c).
 ///
-/// The queue has room for `unres_qlen` packets. The moment and those of the entry other than its due are
+/// What waits is at most `unres_qlen_bytes` bytes, or a packet that waits alone; each packet counts for 257 to
+/// 1,756. The moment and those of the entry other than its due are
 /// at most 30 days; a timer fires at the entry's due; by hand an entry becomes PERMANENT, NOARP,
 /// REACHABLE or STALE.
 pub fn step(
@@ -122,13 +122,12 @@ pub fn step(
     requires moments { IsInRun entry.old }
     requires present { IsTrue entry.old.present }
     requires settable { NamesSettable event.now }
+    requires sized { BringsSized event.now }
     requires due { FiresAtDue event.now at entry.old }
     requires sound { IsSound params.now (state_of entry.old waiting.old) }
-    requires capacity { waiting.old.capacity ≡ params.now.unres_qlen }
     ensures step { stepped entry.new waiting.new acts.new ≡ spec.step params.now at (state_of entry.old waiting.old) event.now }
     ensures sound { IsSound params.now (state_of entry.new waiting.new) }
     ensures moments { IsInRun entry.new }
-    ensures capacity { waiting.new.capacity ≡ waiting.old.capacity }
 {
     run(entry, params, at, event, waiting, acts);
 }

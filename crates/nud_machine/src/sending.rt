@@ -1,13 +1,13 @@
 //! What a packet does to an entry.
-ghost use Rattle.std.specs.Prelude.{◌≡◌, ◌≤◌, [], length};
-ghost use Rattle.nb_base.specs.declared.params.Params.{Params};
+ghost use Rattle.std.specs.Prelude.{◌≡◌, ◌≤◌, [], IsTrue};
+ghost use Rattle.nb_base.specs.Params.{InRange};
 ghost use Rattle.nud_machine.specs.declared.entry.Entry.{Entry};
 ghost use Rattle.nud_machine.specs.Asked.{greatest};
 ghost use Rattle.nud_machine.specs.Kept.{state_of, stepped};
 ghost use Rattle.nud_machine.specs.Send as spec;
-ghost use Rattle.nud_machine.specs.State.{waits_in};
+ghost use Rattle.nud_machine.specs.State.{HasRoom, is_size, waits_in};
 
-use crate::packets::transmit;
+use crate::packets::{make_room, transmit};
 use crate::{Act, Acts, Cause, Entry};
 use nb_base::{Moment, Nud, OpId, Params};
 use nb_queues::WaitQueue;
@@ -17,17 +17,17 @@ fn begin(
     entry: &mut Entry,
     params: &Params,
     at: Moment,
-    id: OpId,
+    packet: (OpId, u32),
     waiting: &mut WaitQueue,
     acts: &mut Acts,
 )
     requires now { at ≤ greatest }
-    requires room { 1 ≤ waiting.old.capacity }
-    requires none_waits { waiting.old.ids ≡ [] }
+    requires size { IsTrue (is_size packet.1) }
+    requires none_waits { waiting.old ≡ [] }
     requires none { acts.old ≡ [] }
-    ensures step { stepped entry.new waiting.new acts.new ≡ spec.begins params.now at id (state_of entry.old waiting.old) }
-    ensures capacity { waiting.new.capacity ≡ waiting.old.capacity }
+    ensures step { stepped entry.new waiting.new acts.new ≡ spec.begins params.now at packet (state_of entry.old waiting.old) }
 {
+    let (id, size) = packet;
     if params.mcast_solicit == 0 {
         entry.fail();
         acts.push(Act::Drop(id, Cause::NoProbes));
@@ -37,23 +37,22 @@ fn begin(
         entry.due = Some(at.after(params.retrans_time));
         acts.push(Act::SolicitGroup);
         acts.push(Act::Wait(id));
-        let _none = waiting.push(id);
+        waiting.push(id, size);
     }
 }
 
-/// A further packet waits behind the others; a full queue drops its oldest.
-fn join(id: OpId, waiting: &mut WaitQueue, acts: &mut Acts)
-    requires room { 1 ≤ waiting.old.capacity }
-    requires few { length waiting.old.ids ≤ waiting.old.capacity }
+/// A further packet waits behind those for which there is still room; the others are dropped.
+#[tactic(auto, using(crate::proofs::Room::few_wait, crate::proofs::Room::few_left))]
+fn join(params: &Params, packet: (OpId, u32), waiting: &mut WaitQueue, acts: &mut Acts)
+    requires params { InRange params.now }
+    requires size { IsTrue (is_size packet.1) }
+    requires room { HasRoom params.now waiting.old }
     requires none { acts.old ≡ [] }
-    ensures step { (p : Params) (entry : Entry) → p.unres_qlen ≡ waiting.old.capacity
-        → stepped entry waiting.new acts.new ≡ spec.joins p id entry waiting.old.ids }
-    ensures capacity { waiting.new.capacity ≡ waiting.old.capacity }
+    ensures step { (entry : Entry) → stepped entry waiting.new acts.new ≡ spec.joins params.now packet entry waiting.old }
 {
-    if let Some(oldest) = waiting.push(id) {
-        acts.push(Act::Drop(oldest, Cause::QueueFull));
-    }
-    acts.push(Act::Wait(id));
+    make_room(params, packet.1, waiting, acts);
+    acts.push(Act::Wait(packet.0));
+    waiting.push(packet.0, packet.1);
 }
 
 /// A packet to the entry: it goes out, waits or is dropped, by the entry's state.
@@ -61,30 +60,29 @@ pub fn send(
     entry: &mut Entry,
     params: &Params,
     at: Moment,
-    id: OpId,
+    packet: (OpId, u32),
     waiting: &mut WaitQueue,
     acts: &mut Acts,
 )
+    requires params { InRange params.now }
     requires now { at ≤ greatest }
-    requires room { 1 ≤ waiting.old.capacity }
-    requires waits { waits_in entry.old.nud waiting.old.ids }
-    requires few { length waiting.old.ids ≤ waiting.old.capacity }
-    requires capacity { waiting.old.capacity ≡ params.now.unres_qlen }
+    requires size { IsTrue (is_size packet.1) }
+    requires waits { waits_in entry.old.nud waiting.old }
+    requires room { HasRoom params.now waiting.old }
     requires none { acts.old ≡ [] }
-    ensures step { stepped entry.new waiting.new acts.new ≡ spec.send params.now at id (state_of entry.old waiting.old) }
-    ensures capacity { waiting.new.capacity ≡ waiting.old.capacity }
+    ensures step { stepped entry.new waiting.new acts.new ≡ spec.send params.now at packet (state_of entry.old waiting.old) }
 {
     entry.used = at;
     match entry.nud {
-        Nud::None | Nud::Failed => begin(entry, params, at, id, waiting, acts),
-        Nud::Incomplete => join(id, waiting, acts),
+        Nud::None | Nud::Failed => begin(entry, params, at, packet, waiting, acts),
+        Nud::Incomplete => join(params, packet, waiting, acts),
         Nud::Stale => {
             entry.nud = Nud::Delay;
             entry.due = Some(at.after(params.delay_first_probe_time));
-            transmit(entry.mac, id, acts);
+            transmit(entry.mac, packet, acts);
         }
         Nud::Permanent | Nud::Noarp | Nud::Reachable | Nud::Delay | Nud::Probe => {
-            transmit(entry.mac, id, acts);
+            transmit(entry.mac, packet, acts);
         }
     }
 }

@@ -1,7 +1,9 @@
 //! What a timer does to an entry at its due.
-ghost use Rattle.std.specs.Prelude.{◌≡◌, ◌≤◌, [], length, option_to_list, IfSome};
-ghost use Rattle.nb_queues.specs.Queue.{Queue};
+ghost use Rattle.std.specs.Prelude.{◌≡◌, ◌≤◌, List, [], option_to_list, IfSome};
+ghost use Rattle.nb_queues.specs.Queue.{Packet};
+ghost use Rattle.nb_base.specs.Params.{InRange};
 ghost use Rattle.nud_machine.specs.Asked.{greatest, IsInRun};
+ghost use Rattle.nud_machine.specs.State.{HasRoom};
 ghost use Rattle.nud_machine.specs.Kept.{state_of, stepped};
 ghost use Rattle.nud_machine.specs.Timer as spec;
 
@@ -51,6 +53,7 @@ fn unicast(mac: Option<Mac>) -> Option<Act>
 }
 
 /// One more solicitation, or where the limit is reached the end: what waits is dropped.
+#[tactic(auto, using(crate::proofs::Room::few_wait))]
 fn probe(
     entry: &mut Entry,
     params: &Params,
@@ -61,11 +64,11 @@ fn probe(
     acts: &mut Acts,
 )
     requires now { at ≤ greatest }
-    requires few { length waiting.old.ids ≤ 64 }
+    requires params { InRange params.now }
+    requires room { HasRoom params.now waiting.old }
     requires none { acts.old ≡ [] }
     ensures step { stepped entry.new waiting.new acts.new
         ≡ spec.probes params.now at limit (state_of entry.old waiting.old) entry.old (option_to_list solicitation) }
-    ensures capacity { waiting.new.capacity ≡ waiting.old.capacity }
 {
     if entry.probes >= limit {
         entry.fail();
@@ -83,7 +86,7 @@ fn probe(
 fn end_reachable(entry: &mut Entry, params: &Params, at: Moment)
     requires now { at ≤ greatest }
     requires moments { IsInRun entry.old }
-    ensures { (queue : Queue) → stepped entry.new queue [] ≡ spec.ends_reachable params.now at (state_of entry.old queue) }
+    ensures { (packets : List Packet) → stepped entry.new packets [] ≡ spec.ends_reachable params.now at (state_of entry.old packets) }
 {
     if is_within(at, entry.confirmed, params.base_reachable_time) {
         entry.due = next_due(at, entry.confirmed, params.base_reachable_time);
@@ -106,10 +109,10 @@ fn end_delay(
 )
     requires now { at ≤ greatest }
     requires moments { IsInRun entry.old }
-    requires few { length waiting.old.ids ≤ 64 }
+    requires params { InRange params.now }
+    requires room { HasRoom params.now waiting.old }
     requires none { acts.old ≡ [] }
     ensures step { stepped entry.new waiting.new acts.new ≡ spec.ends_delay params.now at (state_of entry.old waiting.old) }
-    ensures capacity { waiting.new.capacity ≡ waiting.old.capacity }
 {
     if is_within(at, entry.confirmed, params.delay_first_probe_time) {
         entry.nud = Nud::Reachable;
@@ -133,10 +136,10 @@ pub fn fire(
 )
     requires now { at ≤ greatest }
     requires moments { IsInRun entry.old }
-    requires few { length waiting.old.ids ≤ 64 }
+    requires params { InRange params.now }
+    requires room { HasRoom params.now waiting.old }
     requires none { acts.old ≡ [] }
     ensures step { stepped entry.new waiting.new acts.new ≡ spec.fire params.now at (state_of entry.old waiting.old) }
-    ensures capacity { waiting.new.capacity ≡ waiting.old.capacity }
 {
     match entry.nud {
         Nud::Reachable => end_reachable(entry, params, at),

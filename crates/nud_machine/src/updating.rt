@@ -1,6 +1,8 @@
 //! What an address that was heard or given does to an entry.
-ghost use Rattle.std.specs.Prelude.{◌≡◌, ◌≤◌, [], length};
+ghost use Rattle.std.specs.Prelude.{◌≡◌, ◌≤◌, []};
+ghost use Rattle.nb_base.specs.Params.{InRange};
 ghost use Rattle.nud_machine.specs.Asked.{greatest};
+ghost use Rattle.nud_machine.specs.State.{HasRoom};
 ghost use Rattle.nud_machine.specs.Kept.{manner_of, rule_named, state_of, stepped};
 ghost use Rattle.nud_machine.specs.Step as spec_step;
 ghost use Rattle.nud_machine.specs.Update as spec;
@@ -48,6 +50,7 @@ fn take(entry: &mut Entry, params: &Params, at: Moment, mac: Option<Mac>, nud: N
 }
 
 /// What the rule does.
+#[tactic(auto, using(crate::proofs::Room::few_wait))]
 fn update_by(
     rule: Rule,
     entry: &mut Entry,
@@ -58,11 +61,11 @@ fn update_by(
     acts: &mut Acts,
 )
     requires now { at ≤ greatest }
-    requires few { length waiting.old.ids ≤ 64 }
+    requires params { InRange params.now }
+    requires room { HasRoom params.now waiting.old }
     requires none { acts.old ≡ [] }
     ensures step { stepped entry.new waiting.new acts.new
         ≡ spec.update_by (rule_named rule) params.now at (state_of entry.old waiting.old) news.now.mac news.now.nud (manner_of news.now) }
-    ensures capacity { waiting.new.capacity ≡ waiting.old.capacity }
 {
     match rule {
         Rule::SetByHand | Rule::NoAddress | Rule::NothingNew => {}
@@ -93,12 +96,12 @@ pub fn update(
     acts: &mut Acts,
 ) -> Rule
     requires now { at ≤ greatest }
-    requires few { length waiting.old.ids ≤ 64 }
+    requires params { InRange params.now }
+    requires room { HasRoom params.now waiting.old }
     requires none { acts.old ≡ [] }
     ensures rule { rule_named result ≡ spec.rule_for entry.old news.now.mac news.now.nud (manner_of news.now) }
     ensures step { stepped entry.new waiting.new acts.new
         ≡ spec.update params.now at (state_of entry.old waiting.old) news.now.mac news.now.nud (manner_of news.now) }
-    ensures capacity { waiting.new.capacity ≡ waiting.old.capacity }
 {
     let rule = news.rule_for(entry);
     update_by(rule, entry, params, at, news, waiting, acts);
@@ -125,11 +128,11 @@ pub fn advertise(
     acts: &mut Acts,
 )
     requires now { at ≤ greatest }
-    requires few { length waiting.old.ids ≤ 64 }
+    requires params { InRange params.now }
+    requires room { HasRoom params.now waiting.old }
     requires none { acts.old ≡ [] }
     ensures step { stepped entry.new waiting.new acts.new
         ≡ spec_step.advertise params.now at (state_of entry.old waiting.old) news.now.mac router news.now.nud (manner_of news.now) }
-    ensures capacity { waiting.new.capacity ≡ waiting.old.capacity }
 {
     let rule = update(entry, params, at, news, waiting, acts);
     mark_router(entry, rule, router);
