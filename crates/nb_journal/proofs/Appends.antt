@@ -8,15 +8,16 @@ use Rattle.nb_base.specs.declared.op.Op.TheVariants as op
 use Rattle.nb_base.specs.declared.line.Line.{Line}
 use Rattle.nb_base.specs.Params.{InRange}
 use Rattle.nb_journal.specs.Keys.{is_own, is_timer}
-use Rattle.nb_journal.specs.Lawful.{last_moment, IsSweepMoment, is_before_sweep, before_sweep, sweep_line, HasSweep, IsCrowded, is_collect, IsLawful}
+use Rattle.nb_journal.specs.Lawful.{last_moment, IsSweepMoment, is_before_sweep, before_sweep, sweep_line, HasSweep, is_collect, IsLawful}
 use Rattle.nb_journal.proofs.Lines.{each-snoc, last_moment-snoc, base_of-other}
 use Rattle.nb_journal.proofs.Dues.{DuesFrom, dues_from-nil, dues_from-less, dues_from-snoc, nothing_due-from, dues_from-nothing_due}
 use Rattle.nb_journal.proofs.Fits.{Fits, Runs, dues_at, dues_behind, before_other, before_late, before-off, runs-lawful, lawful-runs}
 
 has_sweep-snoc : (u : ℕ) (lines : List Line) (l : Line) → is_before_sweep u l ≡ false → HasSweep u lines → HasSweep u (lines ++ l ∷ [])
 has_sweep-snoc u lines l off has = (
-  has.0 ++ l ∷ [],
-  ap (λ (xs : List Line). xs ++ l ∷ []) has.1 ∙ append_assoc (before_sweep u lines) (sweep_line u ∷ has.0) (l ∷ []) ∙ ap (λ (xs : List Line). xs ++ (sweep_line u ∷ has.0 ++ l ∷ [])) (sym (before-off u lines l off)),
+  has.0,
+  has.1 ++ l ∷ [],
+  ap (λ (xs : List Line). xs ++ l ∷ []) has.2 ∙ append_assoc (before_sweep u lines) (sweep_line u has.0 ∷ has.1) (l ∷ []) ∙ ap (λ (xs : List Line). xs ++ (sweep_line u has.0 ∷ has.1 ++ l ∷ [])) (sym (before-off u lines l off)),
 )
 
 -- the empty journal
@@ -32,7 +33,7 @@ runs-snoc p lines l clock from next later r runs fits le dues off = record {
   within = rw (last_moment-snoc lines l) (omega arith);
   each = each-snoc (Fits p) lines l runs.each fits;
   dues = dues_from-snoc p lines l later r le dues;
-  sweeps = λ u is lt crowded. has_sweep-snoc u lines l (off u is lt) (runs.sweeps u is lt (subst (IsCrowded p) (before-off u lines l (off u is lt)) crowded));
+  sweeps = λ u is lt. has_sweep-snoc u lines l (off u is lt) (runs.sweeps u is lt);
 }
 
 -- a timer's line
@@ -46,28 +47,28 @@ runs-other p lines l clock from r runs other fits =
     runs-snoc p lines l clock from (l.at + 1) (l.at + 1) r runs fits (omega arith) (dues_behind p lines l.at l.op other fits.due) (λ u is lt. before_other u l (omega (arith, lt)) other)
 
 -- a sweep, where the sweeps below it are there
-pub runs-sweep : (p : Params) (lines : List Line) (clock from u : ℕ) → InRange p → Runs p lines clock from u → Fits p lines (sweep_line u) → Runs p (lines ++ sweep_line u ∷ []) u (u + 1) (u + 1)
-runs-sweep p lines clock from u r runs fits =
-    let more = runs-snoc p lines (sweep_line u) clock from u (u + 1) r runs fits (omega arith) (dues_behind p lines u op.Sweep refl fits.due) (λ v is lt. before_other v (sweep_line u) (omega (arith, lt)) refl) in
+pub runs-sweep : (p : Params) (lines : List Line) (clock from u seen : ℕ) → InRange p → Runs p lines clock from u → Fits p lines (sweep_line u seen) → Runs p (lines ++ sweep_line u seen ∷ []) u (u + 1) (u + 1)
+runs-sweep p lines clock from u seen r runs fits =
+    let more = runs-snoc p lines (sweep_line u seen) clock from u (u + 1) r runs fits (omega arith) (dues_behind p lines u op.Sweep refl fits.due) (λ v is lt. before_other v (sweep_line u seen) (omega (arith, lt)) refl) in
     record {
       within = more.within;
       each = more.each;
       dues = more.dues;
-      sweeps = λ v is lt crowded. ⊎_elim
-          (λ (below : v < u). more.sweeps v is below crowded)
-          (λ (above : u ≤ v). let same : u ≡ v = omega (arith, above, lt) in subst (λ (w : ℕ). HasSweep w (lines ++ sweep_line u ∷ [])) same here)
+      sweeps = λ v is lt. ⊎_elim
+          (λ (below : v < u). more.sweeps v is below)
+          (λ (above : u ≤ v). let same : u ≡ v = omega (arith, above, lt) in subst (λ (w : ℕ). HasSweep w (lines ++ sweep_line u seen ∷ [])) same here)
           (cases_lt v u);
     } where
-      here : HasSweep u (lines ++ sweep_line u ∷ [])
-      here = ([], ap (λ (xs : List Line). xs ++ sweep_line u ∷ []) (fits.sweep.2 ∙ sym (before-off u lines (sweep_line u) (before_other u (sweep_line u) (omega arith) refl))))
+      here : HasSweep u (lines ++ sweep_line u seen ∷ [])
+      here = (seen, [], ap (λ (xs : List Line). xs ++ sweep_line u seen ∷ []) (fits.sweep.2 ∙ sym (before-off u lines (sweep_line u seen) (before_other u (sweep_line u seen) (omega arith) refl))))
 
--- a sweep that isn't asked for is passed
-pub runs-pass : (p : Params) (lines : List Line) (clock from next later : ℕ) → Runs p lines clock from next → ((u : ℕ) → IsSweepMoment p u → next ≤ u → u < later → IsCrowded p (before_sweep u lines) → ⊥) → Runs p lines clock from later
+-- time passes where there is no multiple of the interval
+pub runs-pass : (p : Params) (lines : List Line) (clock from next later : ℕ) → Runs p lines clock from next → ((u : ℕ) → IsSweepMoment p u → next ≤ u → u < later → ⊥) → Runs p lines clock from later
 runs-pass p lines clock from next later runs none = record {
   within = runs.within;
   each = runs.each;
   dues = runs.dues;
-  sweeps = λ u is lt crowded. ⊎_elim (λ (below : u < next). runs.sweeps u is below crowded) (λ (above : next ≤ u). absurd (none u is above lt crowded)) (cases_lt u next);
+  sweeps = λ u is lt. ⊎_elim (λ (below : u < next). runs.sweeps u is below) (λ (above : next ≤ u). absurd (none u is above lt)) (cases_lt u next);
 }
 
 -- at a clock and with dues and sweeps less far
@@ -91,7 +92,7 @@ sweep_moment-above p u is = let le = mul-le-mul_right {m = 1} {n = is.0 + 1} p.g
 
 -- the empty journal is lawful at the clock 0
 pub lawful-nil : (p : Params) → InRange p → IsLawful p [] 0
-lawful-nil p r = runs-lawful p [] 0 r (runs-pass p [] 0 1 0 1 (runs-nil p 1) (λ u is above lt crowded. none u is lt)) refl where
+lawful-nil p r = runs-lawful p [] 0 r (runs-pass p [] 0 1 0 1 (runs-nil p 1) (λ u is above lt. none u is lt)) refl where
   none : (u : ℕ) → IsSweepMoment p u → u < 1 → ⊥
   none u is lt = let le = sweep_moment-above p u is in let positive = r.gc_interval.0 in omega (arith, le, lt, positive)
 

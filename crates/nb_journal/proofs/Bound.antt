@@ -1,5 +1,5 @@
 -- The line bound: what a journal's lines are paid by.
-use Rattle.std.proofs.Common.{◌≡◌, ⊎_elim, ℕ, suc, ◌+◌, ◌*◌, ◌<◌, ◌≤◌, Bool, true, false, ◌&&◌, is_some, if◌then◌else◌, List, [], ◌∷◌, ◌++◌, length, refl, sym, ◌∙◌, ap, subst, arith, append_assoc, append-nil}
+use Rattle.std.proofs.Common.{◌≡◌, ⊎_elim, ℕ, suc, ◌+◌, ◌*◌, ◌<◌, ◌≤◌, Bool, true, false, if◌then◌else◌, List, [], ◌∷◌, ◌++◌, length, refl, sym, ◌∙◌, ap, subst, arith, append_assoc, append-nil}
 use Rattle.std.specs.Prelude.{map, filter}
 use Rattle.std.proofs.lemmas.Bool.{cond_both, cases_lt, false≢true}
 use Rattle.std.proofs.lemmas.List.{length-append, length-map}
@@ -12,9 +12,9 @@ use Rattle.nb_base.specs.declared.op.Op.{Op}
 use Rattle.nb_base.specs.declared.op.Op.TheVariants as op
 use Rattle.nb_base.specs.declared.line.Line.{Line}
 use Rattle.nb_base.specs.Params.{InRange}
-use Rattle.nb_journal.specs.Keys.{is_own, is_timer, key_of}
-use Rattle.nb_journal.specs.Fold.{present_count, state_of, known_keys}
-use Rattle.nb_journal.specs.Lawful.{each_line, EachLine, last_moment, IsTimersTurn, is_before_sweep, before_sweep, is_collect, base_of, making, is_pass_due, last_pass, making_order, is_collectable, collected, collect_line, collects, HasItsPass}
+use Rattle.nb_journal.specs.Keys.{has_key, is_own, is_timer, is_sweep, key_of}
+use Rattle.nb_journal.specs.Fold.{is_present, seen_of, state_of, known_keys}
+use Rattle.nb_journal.specs.Lawful.{each_line, EachLine, last_moment, IsTimersTurn, is_before_sweep, before_sweep, is_collect, base_of, making_order, is_collectable, has_pass, taken_by_pass, collect_line, collects, HasItsPass}
 use Rattle.nb_journal.specs.Accounts.{total_potential, own_lines, line_bound}
 use Rattle.nb_journal.specs.Laws.{LawfulInBound, BrokenOffInBound}
 use Rattle.nb_journal.proofs.Lines.{by_last, each-last, last_moment-snoc, base_of-collect, base_of-other}
@@ -23,11 +23,8 @@ use Rattle.nb_journal.proofs.Fits.{Fits, FitsSweep, before_other, lawful-runs, b
 use Rattle.nb_journal.proofs.Appends.{sweep_moment-above}
 use Rattle.nb_journal.proofs.Passes.{own-full}
 use Rattle.nb_journal.proofs.Totals.{total-free, total-line, total-timer, total-collects}
+use Rattle.nb_journal.proofs.Counts.{AreDistinct}
 use Rattle.nb_journal.proofs.Orders.{order-is, collected-within, collected-distinct}
-
-abbrev is_sweep : Op → Bool
-is_sweep op.Sweep = true
-is_sweep _ = false
 
 abbrev sweep_lines : List Line → List Line
 sweep_lines journal = filter (λ line. is_sweep line.op) journal
@@ -101,32 +98,34 @@ paid-own p lines l e paid =
     omega (arith, paid, rise, own, swept, long)
 
 -- the collects before a line are of different present entries
-abbrev pass_keys : Params → List Line → Line → List Key
-pass_keys p base l = collected p.gc_thresh2 (present_count p base) (λ key. is_collectable l.at (state_of p base key)) (making_order p base)
+paid-keys : (p : Params) (base : List Line) (at : ℕ) (keys : List Key) → AreDistinct keys → ((key : Key) → has_key keys key ≡ true → is_present p base key ≡ true) → IsPaid p base → IsPaid p (base ++ map (collect_line at) keys)
+paid-keys p base at keys distinct present paid =
+    let lower = total-collects p base at keys distinct present in
+    let own = collects_off (λ line. is_own line.op) base at keys (λ key. refl) in
+    let same = ap (λ (n : ℕ). n * share p) own in
+    let swept = collects_off (λ line. is_sweep line.op) base at keys (λ key. refl) in
+    let long = length-append base (map (collect_line at) keys) ∙ ap (λ (n : ℕ). length base + n) (length-map keys (collect_line at)) in
+    omega (arith, paid, lower, same, swept, long)
 
 paid-collects : (p : Params) (base : List Line) (l : Line) → IsPaid p base → IsPaid p (base ++ collects p base l)
 paid-collects p base l paid =
-    cond_both (is_some (making p base l) && is_pass_due p (present_count p base) (last_pass p base) l.at) (map (collect_line l.at) (pass_keys p base l)) [] (λ (xs : List Line). IsPaid p (base ++ xs)) (λ e. taken) (λ e. none) where
+    cond_both (has_pass p base l) (taken_by_pass p base l) [] (λ (keys : List Key). IsPaid p (base ++ map (collect_line l.at) keys)) (λ e. taken) (λ e. none) where
       none : IsPaid p (base ++ [])
       none = subst (IsPaid p) (sym (append-nil base)) paid
 
-      taken : IsPaid p (base ++ map (collect_line l.at) (pass_keys p base l))
+      taken : IsPaid p (base ++ map (collect_line l.at) (taken_by_pass p base l))
       taken =
           let order = order-is p base in
-          let lower = total-collects p base l.at (pass_keys p base l)
-          (collected-distinct p.gc_thresh2 (present_count p base) (λ key. is_collectable l.at (state_of p base key)) (making_order p base) order.distinct)
-          (λ key there. order.present key (collected-within p.gc_thresh2 (present_count p base) (λ key. is_collectable l.at (state_of p base key)) (making_order p base) key there)) in
-          let own = collects_off (λ line. is_own line.op) base l.at (pass_keys p base l) (λ key. refl) in
-          let same = ap (λ (n : ℕ). n * share p) own in
-          let swept = collects_off (λ line. is_sweep line.op) base l.at (pass_keys p base l) (λ key. refl) in
-          let long = length-append base (map (collect_line l.at) (pass_keys p base l)) ∙ ap (λ (n : ℕ). length base + n) (length-map (pass_keys p base l) (collect_line l.at)) in
-          omega (arith, paid, lower, same, swept, long)
+          let takes = λ (key : Key). is_collectable l.at (state_of p base key) in
+          paid-keys p base l.at (taken_by_pass p base l)
+          (collected-distinct p.gc_thresh2 (seen_of l) takes (making_order p base) order.distinct)
+          (λ key there. order.present key (collected-within p.gc_thresh2 (seen_of l) takes (making_order p base) key there)) paid
 
-has_pass : (p : Params) (past : List Line) (l : Line) (o : Op) → is_own o ≡ true → HasItsPass p past l o → past ≡ base_of past ++ collects p (base_of past) l
-has_pass p past l (op.Timer key) e h = cc
-has_pass p past l op.Sweep e h = cc
-has_pass p past l (op.Collect key) e h = cc
-has_pass p past l _ e h = h
+own_pass : (p : Params) (past : List Line) (l : Line) (o : Op) → is_own o ≡ true → HasItsPass p past l o → past ≡ base_of past ++ collects p (base_of past) l
+own_pass p past l (op.Timer key) e h = cc
+own_pass p past l op.Sweep e h = cc
+own_pass p past l (op.Collect key) e h = cc
+own_pass p past l _ e h = h
 
 paid-line : (p : Params) (lines : List Line) (l : Line) (o : Op) → InRange p → l.op ≡ o → Fits p lines l → IsPaid p (base_of lines) → IsPaid p (base_of (lines ++ l ∷ []))
 paid-line p lines l (op.Collect key) r e fits paid = subst (IsPaid p) (sym (base_of-collect lines l (ap is_collect e))) paid
@@ -136,7 +135,7 @@ paid-line p lines l op.Sweep r e fits paid =
     subst (IsPaid p) (sym (base_of-other lines l (ap is_collect e))) (paid-sweep p lines l e (subst (IsPaid p) (subst (HasItsPass p lines l) e fits.pass) paid))
 paid-line p lines l o r e fits paid =
     subst (IsPaid p) (sym (base_of-other lines l (ap is_collect e)))
-    (paid-own p lines l (ap is_own e) (subst (IsPaid p) (sym (has_pass p lines l l.op (ap is_own e) fits.pass)) (paid-collects p (base_of lines) l paid)))
+    (paid-own p lines l (ap is_own e) (subst (IsPaid p) (sym (own_pass p lines l l.op (ap is_own e) fits.pass)) (paid-collects p (base_of lines) l paid)))
 
 no_potential : (p : Params) → total_potential p [] ≡ 0
 unfolding total_potential known_keys

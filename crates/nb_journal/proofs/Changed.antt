@@ -12,8 +12,8 @@ use Rattle.nud_machine.specs.State.{State, Stepped, stays}
 use Rattle.nud_machine.specs.declared.act.Act.{Act}
 use Rattle.nb_journal.specs.Keys.{is_key, key_of}
 use Rattle.nb_journal.specs.Fold.{effect, id_of, meet, turn_away, change_by, change}
-use Rattle.nb_journal.specs.Evaluated.{concerns, is_turned_away}
-use Rattle.nb_journal.proofs.Evaluates.{change-apart}
+use Rattle.nb_journal.specs.Steps.{concerns, is_turned_away}
+use Rattle.nb_journal.proofs.Meets.{change-apart}
 
 pub change_met : (p : Params) (line : Line) (key : Key) (s : State) → concerns line key (key_of line.op) ≡ true → change p line key s ≡ meet p line s (effect p line s line.op)
 unfolding change
@@ -57,7 +57,7 @@ pub acts_apart : (p : Params) (line : Line) (key : Key) (s : State) → concerns
 unfolding change
 acts_apart p line key s h = by_op line.op refl h where
   by_op : (o : Op) → line.op ≡ o → concerns line key (key_of o) ≡ false → (change_by p line key s (key_of o)).acts ≡ (if is_turned_away line key o then Drop (id_of line) TableFull ∷ [] else [])
-  by_op (op.Send named) is e = send_apart p line key s named (rw is refl) e
+  by_op (op.Send named len) is e = send_apart p line key s named (rw is refl) e
   by_op (op.Arp named mac make solicited) is e = none_apart p line key s named (rw is refl) e
   by_op (op.Ns named mac) is e = none_apart p line key s named (rw is refl) e
   by_op (op.Na named mac router solicited overrides) is e = none_apart p line key s named (rw is refl) e

@@ -1,16 +1,17 @@
 -- Known keys are different, an unknown key is absent, and sums over keys.
-use Rattle.std.proofs.Common.{◌≡◌, ◌⊎◌, inl, inr, ⊎_elim, ℕ, ◌+◌, ◌≤◌, Bool, true, false, ◌||◌, if◌then◌else◌, List, [], ◌∷◌, ◌++◌, Option, Some, None, refl, sym, ◌∙◌, ap, subst, arith}
+use Rattle.std.proofs.Common.{◌≡◌, ◌⊎◌, inl, inr, ⊎_elim, ℕ, ◌+◌, ◌≤◌, Bool, true, false, ◌||◌, ◌&&◌, if◌then◌else◌, List, [], ◌∷◌, ◌++◌, Option, Some, None, refl, sym, ◌∙◌, ap, subst, arith}
 use Rattle.std.specs.Prelude.{filter}
-use Rattle.std.proofs.lemmas.Bool.{false≢true, or_parts, or_cases, false_from_ne_true}
+use Rattle.std.proofs.lemmas.Bool.{false≢true, or_parts, or_cases, false_from_ne_true, cond_both}
 use Rattle.std.proofs.lemmas.List.Folds.{list_any-append}
 use Rattle.nb_base.specs.declared.key.Key.{Key}
 use Rattle.nb_base.specs.declared.params.Params.{Params}
 use Rattle.nb_base.specs.declared.op.Op.{Op}
 use Rattle.nb_base.specs.declared.op.Op.TheVariants as op
 use Rattle.nb_base.specs.declared.line.Line.{Line}
+use Rattle.nud_machine.specs.declared.event.Event.TheVariants as event
 use Rattle.nud_machine.specs.State.{State, Stepped, absent}
 use Rattle.nb_journal.specs.Keys.{is_key, key_of, made_known}
-use Rattle.nb_journal.specs.Fold.{effect, meet, change, state_of, with_key, known_keys}
+use Rattle.nb_journal.specs.Fold.{Effect, Passes, Brings, effect, saw_enough, is_swept, meet, change, state_of, with_key, known_keys}
 use Rattle.nb_journal.specs.Accounts.{sum_over}
 use Rattle.nb_journal.proofs.Changes.{is_key-same, change-other}
 use Rattle.nb_journal.proofs.Lines.{by_last}
@@ -72,15 +73,16 @@ not_with_key keys (Some n) key h = by_test (has_key keys n) refl h where
       (parts.0, of_new (or_parts (is_key n key) false parts.1).0)
 
 absent_stays : (p : Params) (l : Line) (o : Op) → made_known o ≡ None → (meet p l absent (effect p l absent o)).state ≡ absent
-absent_stays p l (op.Send key) e = cc
+absent_stays p l (op.Send key len) e = cc
 absent_stays p l (op.Arp key mac true solicited) e = cc
 absent_stays p l (op.Ns key mac) e = cc
 absent_stays p l (op.Add key (Some mac) nud) e = cc
 absent_stays p l (op.Replace key (Some mac) nud) e = cc
+absent_stays p l op.Sweep e = cond_both (saw_enough p l.seen && is_swept p l.at absent) (Brings event.Remove) Passes (λ (x : Effect). (meet p l absent x).state ≡ absent) (λ t. refl) (λ t. refl)
 absent_stays p l _ e = refl
 
 made_known-names : (o : Op) (k : Key) → made_known o ≡ Some k → key_of o ≡ Some k
-made_known-names (op.Send key) k e = e
+made_known-names (op.Send key len) k e = e
 made_known-names (op.Arp key mac true solicited) k e = e
 made_known-names (op.Ns key mac) k e = e
 made_known-names (op.Add key (Some mac) nud) k e = e

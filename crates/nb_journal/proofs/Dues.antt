@@ -17,7 +17,7 @@ use Rattle.nb_journal.proofs.Steps.{Rises, step_rises}
 use Rattle.nb_journal.proofs.Folds.{state_of-nil, state_of-snoc}
 
 turn_away-stays : (l : Line) (s : State) (o : Op) → (turn_away l s o).state ≡ s
-turn_away-stays l s (op.Send key) = refl
+turn_away-stays l s (op.Send key len) = refl
 turn_away-stays l s _ = refl
 
 -- a line leaves a state alone, or its effect meets it

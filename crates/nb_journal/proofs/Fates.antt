@@ -11,7 +11,7 @@ use Rattle.nb_base.specs.declared.op.Op.TheVariants as op
 use Rattle.nb_base.specs.declared.line.Line.{Line}
 use Rattle.nud_machine.specs.declared.act.Act.{Act}
 use Rattle.nud_machine.specs.declared.act.Act.TheVariants as act
-use Rattle.nud_machine.specs.Laws.{leaving}
+use Rattle.nud_machine.specs.Laws.{leaving, ids_of}
 use Rattle.nb_journal.specs.Fold.{id_of, state_of, known_keys}
 use Rattle.nb_journal.specs.Lawful.{EachLine}
 use Rattle.nb_journal.specs.Accounts.{Fate, Waits, is_id, fate_by_act, acts_at, acts_behind, ends_behind, is_waiting, fates_of, ended, sum_over, sends_packet, times_sent}
@@ -54,7 +54,7 @@ ends_count p id past (x ∷ xs) =
 
 sends_count : (id : OpId) (l : Line) (o : Op) (more : List Line) (ids : List OpId) → length (filter (λ line. sends_packet id line line.op) more) ≡ count (is_id id) ids
     → length (if sends_packet id l o then l ∷ filter (λ line. sends_packet id line line.op) more else filter (λ line. sends_packet id line line.op) more) ≡ count (is_id id) (packet_of l o ++ ids)
-sends_count id l (op.Send key) more ids e = by_test (is_id id (id_of l)) where
+sends_count id l (op.Send key len) more ids e = by_test (is_id id (id_of l)) where
   by_test : (t : Bool) → length (if t then l ∷ filter (λ line. sends_packet id line line.op) more else filter (λ line. sends_packet id line line.op) more) ≡ length (if t then id_of l ∷ filter (is_id id) ids else filter (is_id id) ids)
   by_test true = omega (arith, e)
   by_test false = e
@@ -113,12 +113,12 @@ one_fate : (p : Params) (lines : List Line) (id : OpId) → EachLine (Fits p) li
 one_fate p lines id all once = ap length (fates-are p lines id) ∙ by_test (is_waiting p lines id) refl where
   by_test : (t : Bool) → is_waiting p lines id ≡ t → length (ends_behind p id [] lines ++ (if t then Waits ∷ [] else [])) ≡ 1
   by_test true e =
-      let some = any_some id (λ (key : Key). (state_of p lines key).waiting) (known_keys lines) e in
+      let some = any_some id (λ (key : Key). ids_of (state_of p lines key).waiting) (known_keys lines) e in
       let long = length-append (ends_behind p id [] lines) (Waits ∷ []) in
       let all_of = places p id lines all in
       omega (arith, some, long, all_of, once)
   by_test false e =
-      let none = any_none id (λ (key : Key). (state_of p lines key).waiting) (known_keys lines) e in
+      let none = any_none id (λ (key : Key). ids_of (state_of p lines key).waiting) (known_keys lines) e in
       let long = length-append (ends_behind p id [] lines) [] in
       let all_of = places p id lines all in
       omega (arith, none, long, all_of, once)

@@ -9,6 +9,7 @@ use Rattle.nb_base.specs.declared.op.Op.TheVariants as op
 use Rattle.nb_base.specs.declared.line.Line.{Line}
 use Rattle.nud_machine.specs.declared.act.Act.{Act}
 use Rattle.nud_machine.specs.declared.act.Act.TheVariants as act
+use Rattle.nud_machine.specs.Laws.{ids_of}
 use Rattle.nb_journal.specs.Keys.{is_send}
 use Rattle.nb_journal.specs.Fold.{state_of, known_keys, is_transmit}
 use Rattle.nb_journal.specs.Accounts.{ended, sum_over, is_drop, acts_behind, send_lines}
@@ -42,7 +43,7 @@ waits_count f (k ∷ ks) =
     omega (arith, long, here, rest)
 
 sends_more : (l : Line) (o : Op) (more : List Line) (ids : List OpId) → length (send_lines more) ≡ length ids → length (if is_send o then l ∷ send_lines more else send_lines more) ≡ length (packet_of l o ++ ids)
-sends_more l (op.Send key) more ids e = omega (arith, e)
+sends_more l (op.Send key len) more ids e = omega (arith, e)
 sends_more l _ more ids e = e
 
 sends_count : (lines : List Line) → length (send_lines lines) ≡ length (packets_of lines)
@@ -54,7 +55,7 @@ fates_sum p journal clock lawful =
     let all = balance p any journal (lawful-runs p journal clock lawful).each in
     let ends = any_count (ended (acts_behind p [] journal)) in
     let apart = ends_count (acts_behind p [] journal) in
-    let waits = waits_count (λ (key : Key). (state_of p journal key).waiting) (known_keys journal) in
+    let waits = waits_count (λ (key : Key). ids_of (state_of p journal key).waiting) (known_keys journal) in
     let sends = sends_count journal in
     let packets = any_count (packets_of journal) in
     omega (arith, all, ends, apart, waits, sends, packets)

@@ -11,13 +11,14 @@ use Rattle.nb_base.specs.declared.op.Op.TheVariants as op
 use Rattle.nb_base.specs.declared.line.Line.{Line}
 use Rattle.nb_base.specs.Params.{InRange}
 use Rattle.nb_journal.specs.Keys.{is_own, is_timer}
-use Rattle.nb_journal.specs.Lawful.{each_line, EachLine, last_moment, due_of, IsTimersTurn, PassesNoDue, IsSweepMoment, is_before_sweep, before_sweep, sweep_line, HasSweep, IsCrowded, IsSweepInPlace, HasNoOtherSweep, is_collect, base_of, HasItsPass, full_of, IsOrderly, IsLawful, EndsAtTimer, IsBrokenOff}
+use Rattle.nb_journal.specs.Fold.{seen_of}
+use Rattle.nb_journal.specs.Lawful.{each_line, EachLine, last_moment, due_of, IsTimersTurn, PassesNoDue, IsSweepMoment, is_before_sweep, before_sweep, sweep_line, HasSweep, HasSeen, IsSweepInPlace, HasNoOtherSweep, is_collect, base_of, HasItsPass, full_of, IsOrderly, IsLawful, EndsAtTimer, IsBrokenOff}
 use Rattle.nb_journal.proofs.Lines.{split_last, each-last, each-at, each-of, each-map, each-behind, last_moment-snoc, base_of-other}
 use Rattle.nb_journal.proofs.Dues.{DuesFrom, nothing_due-from, dues_from-nothing_due, nothing_overdue-from, dues_from-nothing_overdue, dues_from-less, dues_from-snoc}
 
 -- a sweep's line is in its place
 abbrev pub FitsSweep : Params → List Line → Line → Op → Type 0
-FitsSweep p past l op.Sweep = IsSweepMoment p l.at × (l ≡ sweep_line l.at) × (past ≡ before_sweep l.at past) × IsCrowded p past
+FitsSweep p past l op.Sweep = IsSweepMoment p l.at × (l ≡ sweep_line l.at (seen_of l)) × (past ≡ before_sweep l.at past)
 FitsSweep p past l _ = Unit {0}
 
 -- the line may stand behind the past
@@ -27,6 +28,7 @@ pub record Fits (p : Params) (past : List Line) (line : Line) : Type 0 where
   pub timer : IsTimersTurn p past line.at line.op
   pub due : PassesNoDue p past line.at line.op
   pub sweep : FitsSweep p past line line.op
+  pub seen : HasSeen p (base_of past) line
   pub pass : HasItsPass p past line line.op
   pub full : line.full ≡ full_of p past line
 
@@ -35,7 +37,7 @@ pub record Runs (p : Params) (journal : List Line) (clock from next : ℕ) : Typ
   pub within : last_moment journal ≤ clock
   pub each : EachLine (Fits p) journal
   pub dues : DuesFrom p journal from
-  pub sweeps : (u : ℕ) → IsSweepMoment p u → u < next → IsCrowded p (before_sweep u journal) → HasSweep u journal
+  pub sweeps : (u : ℕ) → IsSweepMoment p u → u < next → HasSweep u journal
 
 -- ---- dues
 
@@ -171,21 +173,18 @@ fits-orderly p journal r all only = record {
   timers = each-map (Fits p) (λ past line. IsTimersTurn p past line.at line.op) journal (λ past l f. f.timer) all;
   dues = each-map (Fits p) (λ past line. PassesNoDue p past line.at line.op) journal (λ past l f. f.due) all;
   sweeps_only = fits-no_other_sweep p journal r all;
+  seen = each-map (Fits p) (λ past line. HasSeen p (base_of past) line) journal (λ past l f. f.seen) all;
   passes = each-map (Fits p) (λ past line. HasItsPass p past line line.op) journal (λ past l f. f.pass) all;
   passes_only = only;
   full = each-map (Fits p) (λ past line. line.full ≡ full_of p past line) journal (λ past l f. f.full) all;
 }
-
--- where a sweep stands, enough entries were present
-crowded_at : (p : Params) (journal : List Line) (u : ℕ) → EachLine (Fits p) journal → HasSweep u journal → IsCrowded p (before_sweep u journal)
-crowded_at p journal u all has = (each-at (Fits p) (before_sweep u journal) has.0 (sweep_line u) (subst (EachLine (Fits p)) has.1 all)).sweep.3
 
 pub runs-lawful : (p : Params) (journal : List Line) (clock : ℕ) → InRange p → Runs p journal clock (clock + 1) (clock + 1) → base_of journal ≡ journal → IsLawful p journal clock
 runs-lawful p journal clock r runs only = record {
   orderly = fits-orderly p journal r runs.each only;
   within = runs.within;
   none_left = nothing_due-from p journal clock runs.dues;
-  sweeps = λ u is le. (crowded_at p journal u runs.each, runs.sweeps u is (omega (arith, le)));
+  sweeps = λ u is le. runs.sweeps u is (omega (arith, le));
 }
 
 moments_rise : (past lines : List Line) → each_line (λ past line. last_moment past ≤ line.at) past lines → last_moment past ≤ last_moment (past ++ lines)
@@ -207,16 +206,17 @@ moment-within journal past rest l all e =
 
 has_sweep_in_place : (p : Params) (journal past rest : List Line) (l : Line) → journal ≡ past ++ l ∷ rest → IsSweepInPlace p journal past l → HasSweep l.at journal
 has_sweep_in_place p journal past rest l e place =
-    (rest, e ∙ ap (λ (xs : List Line). xs ++ l ∷ rest) place.behind ∙ ap (λ (x : Line). before_sweep l.at journal ++ x ∷ rest) place.line_is)
+    (seen_of l, rest, e ∙ ap (λ (xs : List Line). xs ++ l ∷ rest) place.behind ∙ ap (λ (x : Line). before_sweep l.at journal ++ x ∷ rest) place.line_is)
 
-orderly-fits : (p : Params) (journal : List Line) → IsOrderly p journal → ((u : ℕ) → IsSweepMoment p u → u ≤ last_moment journal → HasSweep u journal → IsCrowded p (before_sweep u journal)) → EachLine (Fits p) journal
-orderly-fits p journal o crowded = each-of (Fits p) journal
+pub orderly-fits : (p : Params) (journal : List Line) → IsOrderly p journal → EachLine (Fits p) journal
+orderly-fits p journal o = each-of (Fits p) journal
     (λ past rest l e. record {
       moment = each-at (λ past line. last_moment past ≤ line.at) past rest l (subst (EachLine (λ past line. last_moment past ≤ line.at)) e o.moments);
       id = each-at (λ past line. is_some line.id ≡ is_own line.op) past rest l (subst (EachLine (λ past line. is_some line.id ≡ is_own line.op)) e o.ids);
       timer = each-at (λ past line. IsTimersTurn p past line.at line.op) past rest l (subst (EachLine (λ past line. IsTimersTurn p past line.at line.op)) e o.timers);
       due = each-at (λ past line. PassesNoDue p past line.at line.op) past rest l (subst (EachLine (λ past line. PassesNoDue p past line.at line.op)) e o.dues);
       sweep = by_op past rest l e l.op refl;
+      seen = each-at (λ past line. HasSeen p (base_of past) line) past rest l (subst (EachLine (λ past line. HasSeen p (base_of past) line)) e o.seen);
       pass = each-at (λ past line. HasItsPass p past line line.op) past rest l (subst (EachLine (λ past line. HasItsPass p past line line.op)) e o.passes);
       full = each-at (λ past line. line.full ≡ full_of p past line) past rest l (subst (EachLine (λ past line. line.full ≡ full_of p past line)) e o.full);
     }) where
@@ -226,7 +226,6 @@ orderly-fits p journal o crowded = each-of (Fits p) journal
             place.moment,
             place.line_is,
             place.behind ∙ sym (filter-twice (is_before_sweep l.at) journal) ∙ ap (before_sweep l.at) (sym place.behind),
-            subst (IsCrowded p) (sym place.behind) (crowded l.at place.moment (moment-within journal past rest l o.moments e) (has_sweep_in_place p journal past rest l e place)),
           )
 
       by_op : (past rest : List Line) (l : Line) → journal ≡ past ++ l ∷ rest → (x : Op) → l.op ≡ x → FitsSweep p past l x
@@ -236,37 +235,32 @@ orderly-fits p journal o crowded = each-of (Fits p) journal
 pub lawful-runs : (p : Params) (journal : List Line) (clock : ℕ) → IsLawful p journal clock → Runs p journal clock (clock + 1) (clock + 1)
 lawful-runs p journal clock lawful = let within = lawful.within in record {
   within = within;
-  each = orderly-fits p journal lawful.orderly (λ u is le has. (lawful.sweeps u is (omega (arith, le, within))).0 has);
+  each = orderly-fits p journal lawful.orderly;
   dues = dues_from-nothing_due p journal clock lawful.none_left;
-  sweeps = λ u is lt. (lawful.sweeps u is (omega (arith, lt))).1;
+  sweeps = λ u is lt. lawful.sweeps u is (omega (arith, lt));
 }
 
 pub broken_off-runs : (p : Params) (journal : List Line) (clock : ℕ) → IsBrokenOff p journal clock → Runs p journal clock clock clock
 broken_off-runs p journal clock broken = let within = broken.within in record {
   within = within;
-  each = orderly-fits p journal broken.orderly (λ u is le has. below u is has (omega (arith, le, within)));
+  each = orderly-fits p journal broken.orderly;
   dues = dues_from-nothing_overdue p journal clock broken.none_overdue;
-  sweeps = λ u is lt. (broken.sweeps u is lt).1;
-} where
-  below : (u : ℕ) → IsSweepMoment p u → HasSweep u journal → u ≤ clock → IsCrowded p (before_sweep u journal)
-  below u is has le = ⊎_elim
-      (λ (lt : u < clock). (broken.sweeps u is lt).0 has)
-      (λ (ge : clock ≤ u). let same : u ≡ clock = omega (arith, le, ge) in absurd (broken.no_sweep_yet (subst (λ (v : ℕ). HasSweep v journal) same has)))
-      (cases_lt u clock)
+  sweeps = λ u is lt. broken.sweeps u is lt;
+}
 
 timer_collect : (o : Op) → is_timer o ≡ true → is_collect o ≡ false
 timer_collect (op.Timer key) e = refl
 timer_collect _ e = cc
 
 -- behind a sweep stands no timer of its moment
-no_timer_behind : (p : Params) (past more : List Line) (l : Line) (u : ℕ) → InRange p → EachLine (Fits p) ((past ++ sweep_line u ∷ more) ++ l ∷ []) → is_timer l.op ≡ true → l.at ≡ u → ⊥
-no_timer_behind p past more l u r all t at =
-    let parts = each-last (Fits p) (past ++ sweep_line u ∷ more) l all in
-    let here = each-at (Fits p) past more (sweep_line u) parts.0 in
-    let split = sym (append_assoc past (sweep_line u ∷ []) more) in
-    let behind = each-behind (IsTimely p) (past ++ sweep_line u ∷ []) more (each-map (Fits p) (IsTimely p) ((past ++ sweep_line u ∷ []) ++ more) (timely p) (subst (EachLine (Fits p)) split parts.0)) in
-    let over = over-through p (past ++ sweep_line u ∷ []) more u r behind (over-first p past (sweep_line u) u r (timely p past (sweep_line u) here) (before_other u (sweep_line u) (omega arith) refl)) in
-    let off = (over-next p (past ++ sweep_line u ∷ more) l u r (subst (λ (xs : List Line). IsOver p xs u) (sym split) over) (timely p (past ++ sweep_line u ∷ more) l parts.1)).0 in
+no_timer_behind : (p : Params) (past more : List Line) (l : Line) (u seen : ℕ) → InRange p → EachLine (Fits p) ((past ++ sweep_line u seen ∷ more) ++ l ∷ []) → is_timer l.op ≡ true → l.at ≡ u → ⊥
+no_timer_behind p past more l u seen r all t at =
+    let parts = each-last (Fits p) (past ++ sweep_line u seen ∷ more) l all in
+    let here = each-at (Fits p) past more (sweep_line u seen) parts.0 in
+    let split = sym (append_assoc past (sweep_line u seen ∷ []) more) in
+    let behind = each-behind (IsTimely p) (past ++ sweep_line u seen ∷ []) more (each-map (Fits p) (IsTimely p) ((past ++ sweep_line u seen ∷ []) ++ more) (timely p) (subst (EachLine (Fits p)) split parts.0)) in
+    let over = over-through p (past ++ sweep_line u seen ∷ []) more u r behind (over-first p past (sweep_line u seen) u r (timely p past (sweep_line u seen) here) (before_other u (sweep_line u seen) (omega arith) refl)) in
+    let off = (over-next p (past ++ sweep_line u seen ∷ more) l u r (subst (λ (xs : List Line). IsOver p xs u) (sym split) over) (timely p (past ++ sweep_line u seen ∷ more) l parts.1)).0 in
     false≢true (sym off ∙ before_timer u l (omega (arith, at)) t)
 
 pub runs-broken_off : (p : Params) (journal : List Line) (clock : ℕ) → InRange p → EndsAtTimer journal clock → Runs p journal clock clock clock → IsBrokenOff p journal clock
@@ -275,10 +269,10 @@ runs-broken_off p journal clock r ends runs = record {
   within = runs.within;
   ends = ends;
   none_overdue = nothing_overdue-from p journal clock runs.dues;
-  sweeps = λ u is lt. (crowded_at p journal u runs.each, runs.sweeps u is lt);
+  sweeps = λ u is lt. runs.sweeps u is lt;
   no_sweep_yet = λ has. ⊎_elim
-      (λ (a : (ends.0 ≡ before_sweep clock journal) × (ends.1 ≡ sweep_line clock)). false≢true (sym (ap (λ (x : Line). is_timer x.op) a.1) ∙ ends.3))
-      (λ (b : (more : List Line) × (ends.0 ≡ before_sweep clock journal ++ sweep_line clock ∷ more)).
-      no_timer_behind p (before_sweep clock journal) b.0 ends.1 clock r (subst (λ (xs : List Line). EachLine (Fits p) (xs ++ ends.1 ∷ [])) b.1 (subst (EachLine (Fits p)) ends.2 runs.each)) ends.3 ends.4)
-      (split_last ends.0 (before_sweep clock journal) has.0 ends.1 (sweep_line clock) (sym ends.2 ∙ has.1));
+      (λ (a : (ends.0 ≡ before_sweep clock journal) × (ends.1 ≡ sweep_line clock has.0)). false≢true (sym (ap (λ (x : Line). is_timer x.op) a.1) ∙ ends.3))
+      (λ (b : (more : List Line) × (ends.0 ≡ before_sweep clock journal ++ sweep_line clock has.0 ∷ more)).
+      no_timer_behind p (before_sweep clock journal) b.0 ends.1 clock has.0 r (subst (λ (xs : List Line). EachLine (Fits p) (xs ++ ends.1 ∷ [])) b.1 (subst (EachLine (Fits p)) ends.2 runs.each)) ends.3 ends.4)
+      (split_last ends.0 (before_sweep clock journal) has.1 ends.1 (sweep_line clock has.0) (sym ends.2 ∙ has.2));
 }

@@ -10,7 +10,7 @@ use Rattle.nb_journal.proofs.Lines.{base_of-other}
 use Rattle.nb_journal.proofs.Dues.{dues_from-nothing_due}
 use Rattle.nb_journal.proofs.Fits.{Fits, Runs, before_late, runs-lawful, lawful-runs, runs-broken_off, broken_off-runs}
 use Rattle.nb_journal.proofs.Appends.{runs-timer, runs-sweep, runs-pass}
-use Rattle.nb_journal.proofs.Passes.{own-full}
+use Rattle.nb_journal.proofs.Passes.{own-full, bare-seen, sweep-seen}
 
 -- the working form of a journal that stands up to a moment
 record Standing (p : Params) (journal : List Line) (from : ℕ) : Type 0 where
@@ -36,6 +36,7 @@ on_by_timer p journal from key at r stands next none =
       timer = next;
       due = tt;
       sweep = tt;
+      seen = bare-seen p journal (timer_line at key) refl refl refl;
       pass = s.bare;
       full = sym (own-full p journal (timer_line at key) refl);
     } in
@@ -65,17 +66,18 @@ on_in_time p journal from clock r stands within due none =
     runs-lawful p journal clock r (record { within = within; each = runs.each; dues = dues_from-nothing_due p journal clock due; sweeps = runs.sweeps }) s.bare
 
 pub on_by_sweep : GoesOnBySweep
-on_by_sweep p journal from u r stands is due before crowded none =
+on_by_sweep p journal from u seen r stands is due before enough none =
     let s = standing p journal from stands in
     let runs = runs-pass p journal s.clock from from u s.runs none in
     let last = last_before u journal before in
-    let fits : Fits p journal (sweep_line u) = record {
+    let fits : Fits p journal (sweep_line u seen) = record {
       moment = last;
       id = refl;
       timer = tt;
       due = due;
-      sweep = (is, refl, before, crowded);
+      sweep = (is, refl, before);
+      seen = sweep-seen p journal u seen s.bare enough;
       pass = s.bare;
-      full = sym (own-full p journal (sweep_line u) refl);
+      full = sym (own-full p journal (sweep_line u seen) refl);
     } in
-    runs-lawful p (journal ++ sweep_line u ∷ []) u r (runs-sweep p journal s.clock from u r runs fits) (base_of-other journal (sweep_line u) refl)
+    runs-lawful p (journal ++ sweep_line u seen ∷ []) u r (runs-sweep p journal s.clock from u seen r runs fits) (base_of-other journal (sweep_line u seen) refl)

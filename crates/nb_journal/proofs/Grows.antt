@@ -1,11 +1,11 @@
 -- The known keys only grow, and a rank never changes.
 use Rattle.std.proofs.Common.{◌≡◌, Bool, true, false, List, [], ◌∷◌, ◌++◌, Option, Some, None, refl, sym, ◌∙◌, ap, arith, append_assoc, append-nil}
-use Rattle.std.specs.List.{list_any}
 use Rattle.std.proofs.lemmas.Bool.{eqb-true, cond_both}
 use Rattle.nb_base.specs.declared.key.Key.{Key}
 use Rattle.nb_base.specs.declared.key.Key.TheVariants.{V4, V6}
 use Rattle.nb_base.specs.declared.line.Line.{Line}
 use Rattle.nb_journal.specs.Keys.{is_key, made_known, place_among}
+pub use Rattle.nb_journal.specs.Keys.{has_key}
 use Rattle.nb_journal.specs.Fold.{with_key, known_keys, rank_of}
 use Rattle.nb_journal.proofs.Lines.{by_last}
 use Rattle.nb_journal.proofs.Folds.{known_keys-snoc}
@@ -17,10 +17,6 @@ is_key-one (V4 a) (V4 b) e = ap V4 (eqb-true a b e)
 is_key-one (V6 a) (V6 b) e = ap V6 (eqb-true a b e)
 is_key-one (V4 a) (V6 b) e = cc
 is_key-one (V6 a) (V4 b) e = cc
-
--- a key stands among keys
-abbrev pub has_key : List Key → Key → Bool
-has_key keys key = list_any (λ other. is_key other key) keys
 
 with_key-grows : (keys : List Key) (new : Option Key) → (more : List Key) × (with_key keys new ≡ keys ++ more)
 with_key-grows keys None = ([], sym (append-nil keys))

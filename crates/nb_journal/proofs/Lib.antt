@@ -1,7 +1,6 @@
 pub mod Changes
 pub mod Lines
 pub mod Folds
-pub mod Quiet
 pub mod Steps
 pub mod Dues
 pub mod Grows
@@ -23,8 +22,7 @@ pub mod Fates
 pub mod FatesTotal
 pub mod GoesOn
 pub mod Takes
-pub mod Evaluates
+pub mod Meets
 pub mod Changed
-pub mod Decides
-pub mod Decided
+pub mod Tests
 pub mod Stepped

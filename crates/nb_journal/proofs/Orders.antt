@@ -5,7 +5,7 @@ use Rattle.std.specs.Option.{option_to_list}
 use Rattle.std.proofs.lemmas.Bool.{false≢true, false_from_ne_true, or_cases, and_parts, not-true}
 use Rattle.nb_base.specs.declared.mac.Mac.{Mac}
 use Rattle.nb_base.specs.declared.key.Key.{Key}
-use Rattle.nb_base.specs.declared.time.OpId.{OpId}
+use Rattle.nb_queues.specs.Queue.{Packet}
 use Rattle.nb_base.specs.declared.nud.Nud.{Nud}
 use Rattle.nb_base.specs.declared.nud.Nud.TheVariants as nud
 use Rattle.nb_base.specs.declared.params.Params.{Params}
@@ -36,8 +36,8 @@ abbrev pub is_remove : Event → Bool
 is_remove event.Remove = true
 is_remove _ = false
 
-send_present : (p : Params) (at : ℕ) (id : OpId) (s : State) (n : Nud) → s.entry.present ≡ true → (send_in n p at id s).state.entry.present ≡ true
-send_present p at id s n i = grind arith
+send_present : (p : Params) (at : ℕ) (packet : Packet) (s : State) (n : Nud) → s.entry.present ≡ true → (send_in n p at packet s).state.entry.present ≡ true
+send_present p at packet s n i = grind arith
 
 fire_present : (p : Params) (at : ℕ) (s : State) (n : Nud) → s.entry.present ≡ true → (fire_in n p at s).state.entry.present ≡ true
 fire_present p at s n i = grind arith
@@ -55,7 +55,7 @@ confirm_present : (p : Params) (at : ℕ) (s : State) → (move p at s event.Con
 confirm_present p at s = grind arith
 
 move_present : (p : Params) (at : ℕ) (s : State) (e : Event) → is_remove e ≡ false → s.entry.present ≡ true → (move p at s e).state.entry.present ≡ true
-move_present p at s (event.Send id) no_remove i = send_present p at id (record s { entry = record s.entry { used = at } }) s.entry.nud i
+move_present p at s (event.Send id size) no_remove i = send_present p at (id, size) (record s { entry = record s.entry { used = at } }) s.entry.nud i
 move_present p at s (event.Arp mac solicited) no_remove i = update_present p at s (Some mac) (heard_as solicited) (arp_manner p at s.entry) (rule_for s.entry (Some mac) (heard_as solicited) (arp_manner p at s.entry)) i
 move_present p at s (event.Ns mac) no_remove i = update_present p at s (Some mac) nud.Stale ns_manner (rule_for s.entry (Some mac) nud.Stale ns_manner) i
 move_present p at s (event.Na mac router solicited overrides) no_remove i =

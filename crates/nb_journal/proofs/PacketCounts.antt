@@ -13,7 +13,7 @@ use Rattle.nb_base.specs.declared.op.Op.TheVariants as op
 use Rattle.nb_base.specs.declared.line.Line.{Line}
 use Rattle.nud_machine.specs.declared.act.Act.{Act}
 use Rattle.nud_machine.specs.State.{State}
-use Rattle.nud_machine.specs.Laws.{leaving}
+use Rattle.nud_machine.specs.Laws.{leaving, ids_of}
 use Rattle.nb_journal.specs.Keys.{is_key, made_known}
 use Rattle.nb_journal.specs.Fold.{id_of, change, state_of, acts_of, known_keys, with_key}
 use Rattle.nb_journal.specs.Lawful.{EachLine}
@@ -106,11 +106,11 @@ sum-known f keys (Some key) h = by_test (has_key keys key) refl where
 
 -- the packets that wait for a key
 abbrev pub waits_at : Params → List Line → (OpId → Bool) → Key → ℕ
-waits_at p lines test key = count test (state_of p lines key).waiting
+waits_at p lines test key = count test (ids_of (state_of p lines key).waiting)
 
 -- the key that an operation sends to
 abbrev send_key : Op → Option Key
-send_key (op.Send key) = Some key
+send_key (op.Send key len) = Some key
 send_key _ = None
 
 abbrev sent_to : Line → Key → Option Key → List OpId
@@ -118,7 +118,7 @@ sent_to l key None = []
 sent_to l key (Some named) = if is_key named key then id_of l ∷ [] else []
 
 sent_is : (l : Line) (key : Key) (o : Op) → sent_by l key o ≡ sent_to l key (send_key o)
-sent_is l key (op.Send named) = refl
+sent_is l key (op.Send named len) = refl
 sent_is l key _ = refl
 
 abbrev packet_to : Line → Option Key → List OpId
@@ -127,15 +127,15 @@ packet_to l (Some key) = id_of l ∷ []
 
 -- the packet that a line sends, if it does
 abbrev pub packet_of : Line → Op → List OpId
-packet_of l (op.Send key) = id_of l ∷ []
+packet_of l (op.Send key len) = id_of l ∷ []
 packet_of l _ = []
 
 packet_is : (l : Line) (o : Op) → packet_of l o ≡ packet_to l (send_key o)
-packet_is l (op.Send key) = refl
+packet_is l (op.Send key len) = refl
 packet_is l _ = refl
 
 send_made : (o : Op) (key : Key) → send_key o ≡ Some key → made_known o ≡ Some key
-send_made (op.Send named) key e = e
+send_made (op.Send named len) key e = e
 send_made _ key e = cc
 
 sent_for : (test : OpId → Bool) (l : Line) (key other : Key) → count test (sent_to l other (Some key)) ≡ only_for key (count test (id_of l ∷ [])) other
@@ -157,10 +157,10 @@ sent_once test l keys o d = by_key (send_key o) refl where
 
 key_line : (p : Params) (past : List Line) (l : Line) (test : OpId → Bool) (key : Key) → Fits p past l → waits_at p past test key + count test (sent_by l key l.op) ≡ count test (ended (acts_of p past l key)) + waits_at p (past ++ l ∷ []) test key
 key_line p past l test key fits =
-    sym (count-append test (state_of p past key).waiting (sent_by l key l.op))
+    sym (count-append test (ids_of (state_of p past key).waiting) (sent_by l key l.op))
     ∙ ap (count test) (line_order p past l key fits)
-    ∙ count-append test (ended (acts_of p past l key)) (change p l key (state_of p past key)).state.waiting
-    ∙ ap (λ (s : State). count test (ended (acts_of p past l key)) + count test s.waiting) (sym (state_of-snoc p past l key))
+    ∙ count-append test (ended (acts_of p past l key)) (ids_of (change p l key (state_of p past key)).state.waiting)
+    ∙ ap (λ (s : State). count test (ended (acts_of p past l key)) + count test (ids_of s.waiting)) (sym (state_of-snoc p past l key))
 
 -- all keys at a line
 line_sum : (p : Params) (past : List Line) (l : Line) (test : OpId → Bool) → Fits p past l
@@ -169,7 +169,7 @@ line_sum p past l test fits =
     let all = known_keys (past ++ l ∷ []) in
     let grown = known_keys-snoc past l in
     let before : sum_over (waits_at p past test) all ≡ sum_over (waits_at p past test) (known_keys past) =
-    ap (sum_over (waits_at p past test)) grown ∙ sum-known (waits_at p past test) (known_keys past) (made_known l.op) (λ key off. ap (λ (s : State). count test s.waiting) (state_of-unknown p past key off)) in
+    ap (sum_over (waits_at p past test)) grown ∙ sum-known (waits_at p past test) (known_keys past) (made_known l.op) (λ key off. ap (λ (s : State). count test (ids_of s.waiting)) (state_of-unknown p past key off)) in
     let sent : sum_over (λ key. count test (sent_by l key l.op)) all ≡ count test (packet_of l l.op) =
     ap (sum_over (λ (key : Key). count test (sent_by l key l.op))) grown ∙ sent_once test l (known_keys past) l.op (subst AreDistinct grown (known_keys-distinct (past ++ l ∷ []))) in
     let ends = keys_count test (acts_of p past l) all in

@@ -1,16 +1,15 @@
 -- A lawful journal goes on by an operation's line behind its collects.
-use Rattle.std.proofs.Common.{◌≡◌, ℕ, ◌+◌, true, false, ◌&&◌, is_some, List, [], ◌∷◌, ◌++◌, Option, Some, None, refl, sym, ◌∙◌, ap, subst, append_assoc, append-nil}
+use Rattle.std.proofs.Common.{◌≡◌, ◌≤◌, ℕ, ◌+◌, true, false, is_some, List, [], ◌∷◌, ◌++◌, Option, Some, None, refl, sym, ◌∙◌, ap, subst, append_assoc, append-nil}
 use Rattle.std.specs.Prelude.{map}
-use Rattle.std.proofs.lemmas.Bool.{cond_both}
 use Rattle.nb_base.specs.declared.key.Key.{Key}
 use Rattle.nb_base.specs.declared.params.Params.{Params}
 use Rattle.nb_base.specs.declared.op.Op.{Op}
 use Rattle.nb_base.specs.declared.op.Op.TheVariants as op
 use Rattle.nb_base.specs.declared.line.Line.{Line}
 use Rattle.nb_base.specs.Params.{InRange}
-use Rattle.nb_journal.specs.Keys.{key_of, is_own}
-use Rattle.nb_journal.specs.Fold.{present_count, state_of}
-use Rattle.nb_journal.specs.Lawful.{NothingDue, IsTimersTurn, PassesNoDue, base_of, made_by, making, is_pass_due, last_pass, making_order, is_collectable, collected, collect_line, collects, HasItsPass, full_of}
+use Rattle.nb_journal.specs.Keys.{key_of, is_own, is_sweep}
+use Rattle.nb_journal.specs.Fold.{present_count}
+use Rattle.nb_journal.specs.Lawful.{NothingDue, IsTimersTurn, PassesNoDue, sweep_line, base_of, made_by, looks, HasSeen, asked_of_pass, collect_line, collects, HasItsPass, full_of}
 use Rattle.nb_journal.specs.Laws.{GoesOnByOperation}
 use Rattle.nb_journal.proofs.Lines.{base_of-collect, base_of-other}
 use Rattle.nb_journal.proofs.Dues.{nothing_due-from}
@@ -25,6 +24,17 @@ made_none p base l (Some key) e = rw e refl
 pub own-full : (p : Params) (past : List Line) (l : Line) → is_own l.op ≡ false → full_of p past l ≡ None
 own-full p past l e = rw (made_none p (base_of past) l (key_of l.op) e) refl
 
+pub looks-none : (p : Params) (base : List Line) (l : Line) → is_own l.op ≡ false → is_sweep l.op ≡ false → looks p base l ≡ false
+looks-none p base l e s = rw (s, made_none p base l (key_of l.op) e) refl
+
+-- and no line of the bucket's own but a sweep looks at the table
+pub bare-seen : (p : Params) (past : List Line) (l : Line) → is_own l.op ≡ false → is_sweep l.op ≡ false → l.seen ≡ None → HasSeen p (base_of past) l
+bare-seen p past l e s none = record { there = ap is_some none ∙ sym (looks-none p (base_of past) l e s); enough = rw none tt }
+
+-- a sweep sees at least what is present
+pub sweep-seen : (p : Params) (past : List Line) (u seen : ℕ) → base_of past ≡ past → present_count p past ≤ seen → HasSeen p (base_of past) (sweep_line u seen)
+sweep-seen p past u seen bare enough = record { there = refl; enough = rw bare enough }
+
 pub collect_fits : (p : Params) (lines : List Line) (at from next : ℕ) (key : Key) → Runs p lines at (at + 1) next → Fits p lines (collect_line at key)
 collect_fits p lines at from next key runs = record {
   moment = runs.within;
@@ -32,6 +42,7 @@ collect_fits p lines at from next key runs = record {
   timer = tt;
   due = nothing_due-from p lines at runs.dues;
   sweep = tt;
+  seen = bare-seen p lines (collect_line at key) refl refl refl;
   pass = tt;
   full = sym (own-full p lines (collect_line at key) refl);
 }
@@ -51,10 +62,7 @@ base_of-collects lines at (key ∷ keys) =
 
 -- the keys whose collects stand before a line
 pub collects_keys : (p : Params) (base : List Line) (l : Line) → (keys : List Key) × (collects p base l ≡ map (collect_line l.at) keys)
-collects_keys p base l =
-    let keys = collected p.gc_thresh2 (present_count p base) (λ key. is_collectable l.at (state_of p base key)) (making_order p base) in
-    cond_both (is_some (making p base l) && is_pass_due p (present_count p base) (last_pass p base) l.at) (map (collect_line l.at) keys) []
-    (λ (xs : List Line). (ks : List Key) × (xs ≡ map (collect_line l.at) ks)) (λ e. (keys, refl)) (λ e. ([], refl))
+collects_keys p base l = (asked_of_pass p base l, refl)
 
 own_timer : (p : Params) (past : List Line) (at : ℕ) (o : Op) → is_own o ≡ true → IsTimersTurn p past at o
 own_timer p past at (op.Timer key) e = cc
@@ -75,7 +83,7 @@ own_pass p past l (op.Collect key) e h = cc
 own_pass p past l _ e h = h
 
 pub goes_on : GoesOnByOperation
-goes_on p journal l r lawful own id full =
+goes_on p journal l r lawful own id seen full =
     let keys = collects_keys p journal l in
     let all = journal ++ collects p journal l in
     let written = sym (ap (λ (xs : List Line). journal ++ xs) keys.1) in
@@ -89,6 +97,7 @@ goes_on p journal l r lawful own id full =
       timer = own_timer p all l.at l.op own;
       due = own_due p all l.at l.op (nothing_due-from p all l.at runs.dues);
       sweep = own_sweep p all l l.op own;
+      seen = subst (λ (b : List Line). HasSeen p b l) (sym base) seen;
       pass = own_pass p all l l.op own (subst (λ (b : List Line). all ≡ b ++ collects p b l) (sym base) refl);
       full = full;
     }))

@@ -3,7 +3,7 @@ use Rattle.std.proofs.Common.{◌≡◌, ℕ, ◌+◌, ◌≤◌, Bool, true, fa
 use Rattle.std.proofs.lemmas.Bool.{and_parts}
 use Rattle.nb_base.specs.declared.mac.Mac.{Mac}
 use Rattle.nb_base.specs.declared.key.Key.{Key}
-use Rattle.nb_base.specs.declared.time.OpId.{OpId}
+use Rattle.nb_queues.specs.Queue.{Packet}
 use Rattle.nb_base.specs.declared.nud.Nud.{Nud}
 use Rattle.nb_base.specs.declared.nud.Nud.TheVariants as nud
 use Rattle.nb_base.specs.declared.params.Params.{Params}
@@ -29,8 +29,8 @@ use Rattle.nb_journal.proofs.Dues.{change-either}
 abbrev pub is_timed : Entry → Bool
 is_timed e = not (is_some e.due) || (e.present && in_timer e.nud)
 
-send_timed : (p : Params) (at : ℕ) (id : OpId) (s : State) (n : Nud) → s.entry.nud ≡ n → s.entry.present ≡ true → is_timed s.entry ≡ true → is_timed (send_in n p at id s).state.entry ≡ true
-send_timed p at id s n e i t = grind arith
+send_timed : (p : Params) (at : ℕ) (packet : Packet) (s : State) (n : Nud) → s.entry.nud ≡ n → s.entry.present ≡ true → is_timed s.entry ≡ true → is_timed (send_in n p at packet s).state.entry ≡ true
+send_timed p at packet s n e i t = grind arith
 
 fire_timed : (p : Params) (at : ℕ) (s : State) (n : Nud) → s.entry.nud ≡ n → s.entry.present ≡ true → is_timed s.entry ≡ true → is_timed (fire_in n p at s).state.entry ≡ true
 fire_timed p at s n e i t = grind arith
@@ -48,7 +48,7 @@ confirm_timed : (p : Params) (at : ℕ) (s : State) → is_timed (move p at s ev
 confirm_timed p at s = grind arith
 
 move_timed : (p : Params) (at : ℕ) (s : State) (e : Event) → s.entry.present ≡ true → is_timed s.entry ≡ true → is_timed (move p at s e).state.entry ≡ true
-move_timed p at s (event.Send id) i t = send_timed p at id (record s { entry = record s.entry { used = at } }) s.entry.nud refl i t
+move_timed p at s (event.Send id size) i t = send_timed p at (id, size) (record s { entry = record s.entry { used = at } }) s.entry.nud refl i t
 move_timed p at s (event.Arp mac solicited) i t = update_timed p at s (Some mac) (heard_as solicited) (arp_manner p at s.entry) (rule_for s.entry (Some mac) (heard_as solicited) (arp_manner p at s.entry)) i t
 move_timed p at s (event.Ns mac) i t = update_timed p at s (Some mac) nud.Stale ns_manner (rule_for s.entry (Some mac) nud.Stale ns_manner) i t
 move_timed p at s (event.Na mac router solicited overrides) i t =

@@ -26,7 +26,11 @@ id n = record { 0 = n }
 
 -- an operation's line
 abbrev own : ℕ → ℕ → Op → Line
-own at n o = record { at = at; id = Some (id n); op = o; full = None }
+own at n o = record { at = at; id = Some (id n); op = o; seen = None; full = None }
+
+-- the line of an operation that makes an entry, and saw so many
+abbrev making : ℕ → ℕ → Op → ℕ → Line
+making at n o seen = record { at = at; id = Some (id n); op = o; seen = Some seen; full = None }
 
 -- 10.0.0.N
 abbrev ten : ℕ → Key
@@ -44,46 +48,50 @@ abbrev k1 : Key
 k1 = V4 167772161
 
 abbrev four_sends : List Line
-four_sends = own 0 33 (op.Send k1) ∷ own 0 65 (op.Send k1) ∷ own 0 97 (op.Send k1) ∷ own 0 129 (op.Send k1) ∷ []
+four_sends = making 0 33 (op.Send k1 1) 0 ∷ own 0 65 (op.Send k1 1) ∷ own 0 97 (op.Send k1 1) ∷ own 0 129 (op.Send k1 1) ∷ []
 
 abbrev unresolved : List Line
 unresolved = four_sends ++ timer_line 1000 k1 ∷ timer_line 2000 k1 ∷ timer_line 3000 k1 ∷ []
 
--- the fourth pushes out the first
-pushed_out : reply_of default_params (own 0 33 (op.Send k1) ∷ own 0 65 (op.Send k1) ∷ own 0 97 (op.Send k1) ∷ []) (own 0 129 (op.Send k1)) ≡ Some (reply.Waits (Some (id 33)))
+-- 800 bytes may wait
+abbrev narrow : Params
+narrow = record default_params { unres_qlen_bytes = 800 }
+
+-- three packets of one byte do, and the fourth pushes out the first
+pushed_out : reply_of narrow (making 0 33 (op.Send k1 1) 0 ∷ own 0 65 (op.Send k1 1) ∷ own 0 97 (op.Send k1 1) ∷ []) (own 0 129 (op.Send k1 1)) ≡ Some (reply.Waits 1)
 unfolding reply_of state_of change is_key
 pushed_out = refl
 
-first_due : due_of default_params four_sends k1 ≡ Some 1000
+first_due : due_of narrow four_sends k1 ≡ Some 1000
 unfolding state_of change is_key
 first_due = refl
 
-third_due : due_of default_params (four_sends ++ timer_line 1000 k1 ∷ timer_line 2000 k1 ∷ []) k1 ≡ Some 3000
+third_due : due_of narrow (four_sends ++ timer_line 1000 k1 ∷ timer_line 2000 k1 ∷ []) k1 ≡ Some 3000
 unfolding state_of change is_key
 third_due = refl
 
 -- the third timer drops the other three
-unresolved_acts : acts_of default_params (four_sends ++ timer_line 1000 k1 ∷ timer_line 2000 k1 ∷ []) (timer_line 3000 k1) k1 ≡ Drop (id 65) cause.Unresolved ∷ Drop (id 97) cause.Unresolved ∷ Drop (id 129) cause.Unresolved ∷ []
+unresolved_acts : acts_of narrow (four_sends ++ timer_line 1000 k1 ∷ timer_line 2000 k1 ∷ []) (timer_line 3000 k1) k1 ≡ Drop (id 65) cause.Unresolved ∷ Drop (id 97) cause.Unresolved ∷ Drop (id 129) cause.Unresolved ∷ []
 unfolding state_of change is_key
 unresolved_acts = refl
 
-unresolved_failed : (state_of default_params unresolved k1).entry.nud ≡ nud.Failed
+unresolved_failed : (state_of narrow unresolved k1).entry.nud ≡ nud.Failed
 unfolding state_of change is_key
 unresolved_failed = refl
 
-unresolved_counted : reply_of default_params unresolved (own 4000 64 op.Show) ≡ Some (reply.Counted 1)
+unresolved_counted : reply_of narrow unresolved (own 4000 64 op.Show) ≡ Some (reply.Counted 1)
 unfolding reply_of present_count state_of known_keys change is_key
 unresolved_counted = refl
 
-first_fate : fates_of default_params unresolved (id 33) ≡ Dropped 3 cause.QueueFull ∷ []
+first_fate : fates_of narrow unresolved (id 33) ≡ Dropped 3 cause.QueueFull ∷ []
 unfolding fates_of state_of known_keys change is_key
 first_fate = refl
 
-second_fate : fates_of default_params unresolved (id 65) ≡ Dropped 6 cause.Unresolved ∷ []
+second_fate : fates_of narrow unresolved (id 65) ≡ Dropped 6 cause.Unresolved ∷ []
 unfolding fates_of state_of known_keys change is_key
 second_fate = refl
 
-waiting_fate : fates_of default_params four_sends (id 65) ≡ Waits ∷ []
+waiting_fate : fates_of narrow four_sends (id 65) ≡ Waits ∷ []
 unfolding fates_of state_of known_keys change is_key
 waiting_fate = refl
 
@@ -96,7 +104,7 @@ abbrev k5 : Key
 k5 = V4 167772165
 
 abbrev two_keys : List Line
-two_keys = own 0 33 (op.Send k7) ∷ own 0 65 (op.Send k5) ∷ []
+two_keys = making 0 33 (op.Send k7 1) 0 ∷ making 0 65 (op.Send k5 1) 1 ∷ []
 
 tie : due_of default_params two_keys k7 ≡ Some 1000
 unfolding state_of change is_key
@@ -117,7 +125,7 @@ second_rank = refl
 -- ---- a REACHABLE entry turns STALE
 
 abbrev reachable : List Line
-reachable = own 0 32 (op.Add k1 (Some mac_a) nud.Reachable) ∷ timer_line 30000 k1 ∷ []
+reachable = making 0 32 (op.Add k1 (Some mac_a) nud.Reachable) 0 ∷ timer_line 30000 k1 ∷ sweep_line 30000 1 ∷ []
 
 rearmed : due_of default_params reachable k1 ≡ Some 30010
 unfolding state_of change is_key
@@ -145,10 +153,10 @@ abbrev k14 : Key
 k14 = V4 167772174
 
 abbrev three_present : List Line
-three_present = own 0 33 (op.Send k11) ∷ own 0 65 (op.Send k12) ∷ own 0 97 (op.Send k13) ∷ []
+three_present = making 0 33 (op.Send k11 1) 0 ∷ making 0 65 (op.Send k12 1) 1 ∷ making 0 97 (op.Send k13 1) 2 ∷ []
 
 abbrev fourth : Line
-fourth = record { at = 0; id = Some (id 129); op = op.Send k14; full = Some 3 }
+fourth = record { at = 0; id = Some (id 129); op = op.Send k14 1; seen = Some 3; full = Some 3 }
 
 fourth_collects : collects small three_present fourth ≡ []
 unfolding present_count state_of known_keys last_pass making_order change is_key
@@ -172,7 +180,7 @@ timed_out =
     ∷ timer_line 3000 k11 ∷ timer_line 3000 k12 ∷ timer_line 3000 k13 ∷ []
 
 abbrev fifth : Line
-fifth = own 5001 161 (op.Send k14)
+fifth = making 5001 161 (op.Send k14 1) 3
 
 order : making_order small timed_out ≡ k11 ∷ k12 ∷ k13 ∷ []
 unfolding making_order present_count state_of known_keys change is_key
@@ -187,7 +195,7 @@ not_full : full_of small (timed_out ++ collects small timed_out fifth) fifth ≡
 unfolding last_pass making_order present_count state_of known_keys change is_key
 not_full = refl
 
-fifth_reply : reply_of small (timed_out ++ collects small timed_out fifth) fifth ≡ Some (reply.Waits None)
+fifth_reply : reply_of small (timed_out ++ collects small timed_out fifth) fifth ≡ Some (reply.Waits 0)
 unfolding reply_of last_pass making_order present_count state_of known_keys change is_key
 fifth_reply = refl
 
@@ -197,21 +205,45 @@ abbrev one_low : Params
 one_low = record default_params { gc_thresh1 = 1 }
 
 abbrev stale_at_0 : List Line
-stale_at_0 = own 0 32 (op.Add k1 (Some mac_a) nud.Stale) ∷ []
+stale_at_0 = making 0 32 (op.Add k1 (Some mac_a) nud.Stale) 0 ∷ []
 
 abbrev swept_twice : List Line
-swept_twice = stale_at_0 ++ sweep_line 30000 ∷ sweep_line 60000 ∷ []
+swept_twice = stale_at_0 ++ sweep_line 30000 1 ∷ sweep_line 60000 1 ∷ []
 
 still_there : present_count one_low swept_twice ≡ 1
 unfolding present_count state_of known_keys change is_key
 still_there = refl
 
-swept : present_count one_low (swept_twice ++ sweep_line 90000 ∷ []) ≡ 0
+swept : present_count one_low (swept_twice ++ sweep_line 90000 1 ∷ []) ≡ 0
 unfolding present_count state_of known_keys change is_key
 swept = refl
 
-before_third : before_sweep 90000 (swept_twice ++ sweep_line 90000 ∷ []) ≡ swept_twice
+before_third : before_sweep 90000 (swept_twice ++ sweep_line 90000 1 ∷ []) ≡ swept_twice
 before_third = refl
+
+-- by default it removes none where it saw no more than are present
+spared : present_count default_params (swept_twice ++ sweep_line 90000 1 ∷ []) ≡ 1
+unfolding present_count state_of known_keys change is_key
+spared = refl
+
+-- but where it saw 127 in other buckets
+swept_by_all : present_count default_params (swept_twice ++ sweep_line 90000 128 ∷ []) ≡ 0
+unfolding present_count state_of known_keys change is_key
+swept_by_all = refl
+
+-- ---- a table that both of two buckets fill
+
+-- this bucket has one entry, the other one two
+abbrev one_of_two : List Line
+one_of_two = making 0 65 (op.Send k12 1) 1 ∷ []
+
+no_collects_by_both : collects small one_of_two fourth ≡ []
+unfolding present_count state_of known_keys last_pass making_order change is_key
+no_collects_by_both = refl
+
+full_by_both : full_of small one_of_two fourth ≡ Some 3
+unfolding present_count state_of known_keys change is_key
+full_by_both = refl
 
 -- ---- the lock time holds an address
 
@@ -232,7 +264,7 @@ abbrev host : Host
 host = record { dev = 0x65 ∷ 0x74 ∷ 0x68 ∷ 0x30 ∷ []; mac = record { 0 = 0x02 ∷ 0x00 ∷ 0x00 ∷ 0x00 ∷ 0x00 ∷ 0x02 ∷ [] }; ip4 = Some 167772162; ip6 = None }
 
 -- a permanent entry's header
-permanent_record : published default_params host (own 0 32 (op.Add k1 (Some mac_a) nud.Permanent) ∷ own 5 33 (op.Send k1) ∷ []) k1
+permanent_record : published default_params host (own 0 32 (op.Add k1 (Some mac_a) nud.Permanent) ∷ own 5 33 (op.Send k1 1) ∷ []) k1
     ≡ unusable ∷ record { usable = true; header = 0x00 ∷ 0x11 ∷ 0x22 ∷ 0x33 ∷ 0x44 ∷ 0x55 ∷ 0x02 ∷ 0x00 ∷ 0x00 ∷ 0x00 ∷ 0x00 ∷ 0x02 ∷ 0x08 ∷ 0x00 ∷ [] } ∷ []
 unfolding published state_of change is_key
 permanent_record = refl
@@ -251,7 +283,7 @@ not_that : (m n : ℕ) → Some m ≡ Some n → m ≡ n
 not_that m n e = cc
 
 -- a timer at another moment than its due
-timer_elsewhere : IsLawful default_params (four_sends ++ timer_line 999 k1 ∷ []) 999 → ⊥
+timer_elsewhere : IsLawful narrow (four_sends ++ timer_line 999 k1 ∷ []) 999 → ⊥
 timer_elsewhere h = let same = not_that 1000 999 (sym first_due ∙ h.orderly.timers.1.1.1.1.0.due) in omega (arith, same)
 
 -- of two timers of one moment the second key's goes first
@@ -259,28 +291,31 @@ wrong_rank_first : IsLawful default_params (two_keys ++ timer_line 1000 k5 ∷ [
 wrong_rank_first h = let le = h.orderly.timers.1.1.0.first k7 tie in let a = first_rank in let b = second_rank in omega (arith, le, a, b)
 
 -- a moment that falls
-falling_moment : IsLawful default_params (own 5 33 (op.Send k7) ∷ own 4 65 (op.Send k5) ∷ []) 5 → ⊥
+falling_moment : IsLawful default_params (own 5 33 (op.Send k7 1) ∷ own 4 65 (op.Send k5 1) ∷ []) 5 → ⊥
 falling_moment h = let le = h.orderly.moments.1.0 in omega (arith, le)
 
 -- `full` is missing
-must_be_full : full_of small three_present (own 0 129 (op.Send k14)) ≡ Some 3
+must_be_full : full_of small three_present (making 0 129 (op.Send k14 1) 3) ≡ Some 3
 unfolding present_count state_of known_keys change is_key
 must_be_full = refl
 
-full_missing : IsLawful small (three_present ++ own 0 129 (op.Send k14) ∷ []) 0 → ⊥
+full_missing : IsLawful small (three_present ++ making 0 129 (op.Send k14 1) 3 ∷ []) 0 → ⊥
 full_missing h = false≢true (ap is_some (h.orderly.full.1.1.1.0 ∙ must_be_full))
 
--- a sweep is missing
-one_present : present_count one_low stale_at_0 ≡ 1
+-- a making line that saw fewer than are present
+two_present : present_count small (making 0 33 (op.Send k11 1) 0 ∷ making 0 65 (op.Send k12 1) 1 ∷ []) ≡ 2
 unfolding present_count state_of known_keys change is_key
-one_present = refl
+two_present = refl
 
-sweep_missing : IsLawful one_low stale_at_0 30000 → ⊥
+seen_too_few : IsLawful small (making 0 33 (op.Send k11 1) 0 ∷ making 0 65 (op.Send k12 1) 1 ∷ making 0 97 (op.Send k13 1) 1 ∷ []) 0 → ⊥
+seen_too_few h = let le = h.orderly.seen.1.1.0.enough in let two = two_present in omega (arith, le, two)
+
+-- a sweep is missing, though few are present
+sweep_missing : IsLawful default_params stale_at_0 30000 → ⊥
 sweep_missing h =
-    let one = one_present in
-    let has = (h.sweeps 30000 (0, refl) (omega arith)).1 (omega (arith, one)) in
-    let none : [] ≡ sweep_line 30000 ∷ has.0 = cc in
-    not_empty (sweep_line 30000) has.0 none where
+    let has = h.sweeps 30000 (0, refl) (omega arith) in
+    let none : [] ≡ sweep_line 30000 has.0 ∷ has.1 = cc in
+    not_empty (sweep_line 30000 has.0) has.1 none where
       not_empty : (x : Line) (xs : List Line) → [] ≡ x ∷ xs → ⊥
       not_empty x xs e = cc
 

@@ -1,7 +1,7 @@
 -- A step sets no due nearer than ten milliseconds from now.
 use Rattle.std.proofs.Common.{◌≡◌, ◌⊎◌, inl, ℕ, ◌+◌, ◌≤◌, Bool, Option, Some, sym, ◌∙◌, arith}
 use Rattle.nb_base.specs.declared.mac.Mac.{Mac}
-use Rattle.nb_base.specs.declared.time.OpId.{OpId}
+use Rattle.nb_queues.specs.Queue.{Packet}
 use Rattle.nb_base.specs.declared.nud.Nud.{Nud}
 use Rattle.nb_base.specs.declared.nud.Nud.TheVariants as nud
 use Rattle.nb_base.specs.declared.params.Params.{Params}
@@ -25,8 +25,8 @@ fire_rises p at s n r d h =
     let delay = r.delay_first_probe_time.0 in
     grind arith
 
-send_rises : (p : Params) (at : ℕ) (id : OpId) (s : State) (n : Nud) → InRange p → Rises at s.entry.due (send_in n p at id s).state.entry.due
-send_rises p at id s n r d h =
+send_rises : (p : Params) (at : ℕ) (packet : Packet) (s : State) (n : Nud) → InRange p → Rises at s.entry.due (send_in n p at packet s).state.entry.due
+send_rises p at packet s n r d h =
     let retrans = r.retrans_time.0 in
     let delay = r.delay_first_probe_time.0 in
     grind arith
@@ -46,7 +46,7 @@ confirm_due : (p : Params) (at : ℕ) (s : State) → (move p at s event.Confirm
 confirm_due p at s = grind arith
 
 move_rises : (p : Params) (at : ℕ) (s : State) (e : Event) → InRange p → Rises at s.entry.due (move p at s e).state.entry.due
-move_rises p at s (event.Send id) r d h = send_rises p at id (record s { entry = record s.entry { used = at } }) s.entry.nud r d h
+move_rises p at s (event.Send id size) r d h = send_rises p at (id, size) (record s { entry = record s.entry { used = at } }) s.entry.nud r d h
 move_rises p at s (event.Arp mac solicited) r d h = update_rises p at s (Some mac) (heard_as solicited) (arp_manner p at s.entry) (rule_for s.entry (Some mac) (heard_as solicited) (arp_manner p at s.entry)) r d h
 move_rises p at s (event.Ns mac) r d h = update_rises p at s (Some mac) nud.Stale ns_manner (rule_for s.entry (Some mac) nud.Stale ns_manner) r d h
 move_rises p at s (event.Na mac router solicited overrides) r d h =

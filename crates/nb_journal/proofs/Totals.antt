@@ -1,5 +1,5 @@
 -- What one line does to the sum of the potentials.
-use Rattle.std.proofs.Common.{◌≡◌, ℕ, ◌+◌, ◌≤◌, Bool, true, false, ◌||◌, if◌then◌else◌, List, [], ◌∷◌, ◌++◌, length, Option, Some, None, refl, sym, ◌∙◌, ap, subst, arith, append_assoc, append-nil}
+use Rattle.std.proofs.Common.{◌≡◌, ℕ, ◌+◌, ◌≤◌, Bool, true, false, ◌||◌, ◌&&◌, if◌then◌else◌, List, [], ◌∷◌, ◌++◌, length, Option, Some, None, refl, sym, ◌∙◌, ap, subst, arith, append_assoc, append-nil}
 use Rattle.std.specs.Prelude.{map}
 use Rattle.std.proofs.lemmas.Bool.{false≢true}
 use Rattle.nb_base.specs.declared.key.Key.{Key}
@@ -12,7 +12,7 @@ use Rattle.nud_machine.specs.declared.event.Event.TheVariants as event
 use Rattle.nud_machine.specs.State.{State, Stepped, absent}
 use Rattle.nud_machine.specs.Step.{step}
 use Rattle.nb_journal.specs.Keys.{is_key, key_of, made_known}
-use Rattle.nb_journal.specs.Fold.{effect, if_so, is_loose, is_swept, meet, state_of, with_key, known_keys, is_present}
+use Rattle.nb_journal.specs.Fold.{effect, if_so, is_loose, is_swept, saw_enough, meet, state_of, with_key, known_keys, is_present}
 use Rattle.nb_journal.specs.Lawful.{due_of, collect_line}
 use Rattle.nb_journal.specs.Accounts.{potential, sum_over, total_potential}
 use Rattle.nb_journal.proofs.Changes.{is_key-same, change-named, change-other}
@@ -55,7 +55,7 @@ remove_less p l s false = omega arith
 free_meet : (p : Params) (l : Line) (s : State) (o : Op) → key_of o ≡ None → potential p (meet p l s (effect p l s o)).state.entry ≤ potential p s.entry
 free_meet p l s op.Show e = omega arith
 free_meet p l s op.Flush e = remove_less p l s (is_loose s)
-free_meet p l s op.Sweep e = remove_less p l s (is_swept p l.at s)
+free_meet p l s op.Sweep e = remove_less p l s (saw_enough p l.seen && is_swept p l.at s)
 free_meet p l s _ e = cc
 
 -- a line that names no key raises nothing

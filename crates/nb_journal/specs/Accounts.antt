@@ -18,10 +18,10 @@ use Rattle.nud_machine.specs.declared.act.Cause.{Cause}
 use Rattle.nud_machine.specs.declared.entry.Entry.{Entry}
 use Rattle.nud_machine.specs.State.{State, absent}
 use Rattle.nud_machine.specs.Record.{record_of, same_record}
-use Rattle.nud_machine.specs.Laws.{leaving}
+use Rattle.nud_machine.specs.Laws.{leaving, ids_of}
 use Rattle.nb_journal.specs.Keys.{is_key, is_own, is_send}
 use Rattle.nb_journal.specs.Fold.{id_of, change, state_of, acts_of, known_keys, is_transmit}
-use Rattle.nb_journal.specs.Lawful.{fold_lines}
+use Rattle.nb_journal.specs.Lawful.{fold_lines, bare_line}
 
 -- ---- published records
 
@@ -85,7 +85,7 @@ ends_behind p id past (line ∷ lines) = flat_map (fate_by_act (length past) id)
 
 -- the packet stands in a queue
 abbrev pub is_waiting : Params → List Line → OpId → Bool
-is_waiting p journal id = list_any (λ key. list_any (is_id id) (state_of p journal key).waiting) (known_keys journal)
+is_waiting p journal id = list_any (λ key. list_any (is_id id) (ids_of (state_of p journal key).waiting)) (known_keys journal)
 
 -- what a journal says of a packet: where it was sent, where it was dropped, and whether it waits
 unfoldable pub fates_of : Params → List Line → OpId → List Fate
@@ -93,7 +93,7 @@ fates_of p journal id = ends_behind p id [] journal ++ (if is_waiting p journal 
 
 -- a line sends the packet
 abbrev pub sends_packet : OpId → Line → Op → Bool
-sends_packet id line (op.Send key) = is_id id (id_of line)
+sends_packet id line (op.Send key len) = is_id id (id_of line)
 sends_packet id line _ = false
 
 -- how many lines send it
@@ -106,7 +106,7 @@ ended acts = flat_map leaving acts
 
 -- the packet that a line sends to a key
 abbrev pub sent_by : Line → Key → Op → List OpId
-sent_by line key (op.Send named) = if is_key named key then id_of line ∷ [] else []
+sent_by line key (op.Send named len) = if is_key named key then id_of line ∷ [] else []
 sent_by line key _ = []
 
 -- the packets that were sent to a key, in the order of their lines
@@ -131,7 +131,7 @@ acts_behind p past (line ∷ lines) = acts_at p past line ++ acts_behind p (past
 
 -- the packets that wait behind a journal, by rank of their keys
 abbrev pub waiting_behind : Params → List Line → List OpId
-waiting_behind p journal = flat_map (λ key. (state_of p journal key).waiting) (known_keys journal)
+waiting_behind p journal = flat_map (λ key. ids_of (state_of p journal key).waiting) (known_keys journal)
 
 -- the lines that send
 abbrev pub send_lines : List Line → List Line
@@ -186,11 +186,25 @@ total_potential p journal = sum_over (λ key. potential p (state_of p journal ke
 
 -- a timer's line
 abbrev pub timer_line : ℕ → Key → Line
-timer_line at key = record { at = at; id = None; op = op.Timer key; full = None }
+timer_line at key = bare_line at (op.Timer key) None
 
 -- the operations' lines
 abbrev pub own_lines : List Line → List Line
 own_lines journal = filter (λ line. is_own line.op) journal
+
+-- an operation as it is entered: its moment, its number and what it asks
+pub record Operation : Type 0 where
+  pub at : ℕ
+  pub id : Option OpId
+  pub op : Op
+
+-- the operation of an own line
+abbrev pub operation_of : Line → Operation
+operation_of line = record { at = line.at; id = line.id; op = line.op }
+
+-- the operations of a journal, in order
+abbrev pub operations : List Line → List Operation
+operations journal = map operation_of (own_lines journal)
 
 -- the most lines that a bucket can have with so many operations up to a moment
 abbrev pub line_bound : Params → ℕ → ℕ → ℕ

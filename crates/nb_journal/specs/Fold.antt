@@ -1,5 +1,5 @@
 -- What a journal means for each key: the effect of an operation on an entry, states and acts by a fold over the lines, and replies (the rules of a bucket are this project's own, after ip-neighbour(8) and Linux).
-use Rattle.std.specs.Prelude.{ℕ, ◌+◌, Bool, true, false, ◌||◌, ◌&&◌, not, nat_lt, is_none, unwrap_or, if◌then◌else◌, List, [], Option, Some, is_some, ◌∷◌, ◌++◌, fold, filter, length, None}
+use Rattle.std.specs.Prelude.{ℕ, ◌+◌, Bool, true, false, ◌||◌, ◌&&◌, not, nat_le, nat_lt, is_none, unwrap_or, if◌then◌else◌, List, [], Option, Some, is_some, ◌∷◌, ◌++◌, fold, filter, length, None}
 use Rattle.std.specs.Option.{option_map_or}
 use Rattle.nb_base.specs.declared.mac.Mac.{Mac}
 use Rattle.nb_base.specs.declared.time.OpId.{OpId}
@@ -11,6 +11,7 @@ use Rattle.nb_base.specs.declared.line.Line.{Line}
 use Rattle.nb_base.specs.declared.line.Reply.{Reply}
 use Rattle.nb_base.specs.declared.line.Reply.TheVariants as reply
 use Rattle.nb_base.specs.Nud.{is_valid}
+use Rattle.nb_queues.specs.Queue.{Packet}
 use Rattle.nud_machine.specs.declared.event.Event.{Event}
 use Rattle.nud_machine.specs.declared.event.Event.TheVariants as event
 use Rattle.nud_machine.specs.State.{State, same_nud, Stepped, absent, made, stays}
@@ -37,6 +38,14 @@ pub data Effect : Type 0 where
 abbrev pub id_of : Line → OpId
 id_of line = unwrap_or line.id (record { 0 = 0 })
 
+-- what a packet counts for where it waits: the bytes of its payload, and 256 more (this project's own, after the size that Linux counts for a packet)
+abbrev pub size_of : ℕ → ℕ
+size_of len = len + 256
+
+-- what a line saw of the whole table, or 0 where it looked at nothing
+abbrev pub seen_of : Line → ℕ
+seen_of line = unwrap_or line.seen 0
+
 -- present, and neither PERMANENT nor NOARP
 abbrev pub is_loose : State → Bool
 is_loose s = s.entry.present && not (is_fixed s.entry.nud)
@@ -45,7 +54,7 @@ is_loose s = s.entry.present && not (is_fixed s.entry.nud)
 abbrev pub has_waiting : State → Bool
 has_waiting s = waits s.waiting
   where
-    waits : List OpId → Bool
+    waits : List Packet → Bool
     waits [] = false
     waits _ = true
 
@@ -59,6 +68,11 @@ is_swept p at s =
     is_loose s && not (has_waiting s)
     && (same_nud s.entry.nud nud.Failed || (is_past at (Some s.entry.used) p.gc_stale_time && is_past at s.entry.confirmed p.gc_stale_time))
 
+-- a sweep's line saw enough entries for entries to be removed
+abbrev pub saw_enough : Params → Option ℕ → Bool
+saw_enough p None = false
+saw_enough p (Some seen) = nat_le p.gc_thresh1 seen
+
 -- the event where the test holds, or else nothing
 abbrev pub if_so : Bool → Event → Effect
 if_so b e = if b then Brings e else Passes
@@ -69,7 +83,7 @@ lacks_address mac s = is_none mac && not (is_valid s.entry.nud)
 
 -- a row for each operation
 abbrev pub effect : Params → Line → State → Op → Effect
-effect p line s (op.Send key) = Brings (event.Send (id_of line))
+effect p line s (op.Send key len) = Brings (event.Send (id_of line) (size_of len))
 effect p line s (op.Arp key mac make solicited) = if s.entry.present || make then Brings (event.Arp mac solicited) else Refuses reply.Ignored
 effect p line s (op.Ns key mac) = Brings (event.Ns mac)
 effect p line s (op.Na key mac router solicited overrides) = if s.entry.present then Brings (event.Na mac router solicited overrides) else Refuses reply.Ignored
@@ -81,7 +95,7 @@ effect p line s (op.Confirm key) = if s.entry.present && is_valid s.entry.nud th
 effect p line s op.Show = Passes
 effect p line s op.Flush = if_so (is_loose s) event.Remove
 effect p line s (op.Timer key) = if_so s.entry.present event.Timer
-effect p line s op.Sweep = if_so (is_swept p line.at s) event.Remove
+effect p line s op.Sweep = if_so (saw_enough p line.seen && is_swept p line.at s) event.Remove
 effect p line s (op.Collect key) = if_so s.entry.present event.Remove
 
 -- ---- what a journal says of its keys: a fold over its lines, from the absent entry
@@ -94,7 +108,7 @@ meet p line s (Brings e) = step p line.at (if s.entry.present then s else made l
 
 -- a line that found the table full changes nothing; the packet of a send is dropped
 abbrev pub turn_away : Line → State → Op → Stepped
-turn_away line s (op.Send key) = record { state = s; acts = Drop (id_of line) TableFull ∷ [] }
+turn_away line s (op.Send key len) = record { state = s; acts = Drop (id_of line) TableFull ∷ [] }
 turn_away line s _ = stays s
 
 -- what a line does to the entry of a key that it names, or of any key where it names none
@@ -148,21 +162,20 @@ abbrev pub is_no_probes : Act → Bool
 is_no_probes (act.Drop id cause.NoProbes) = true
 is_no_probes _ = false
 
--- the packet that a full queue dropped
-abbrev pub queue_full_drop : List Act → Option OpId
-queue_full_drop [] = None
-queue_full_drop (act.Drop id cause.QueueFull ∷ acts) = Some id
-queue_full_drop (a ∷ acts) = queue_full_drop acts
+-- an act by which a packet is dropped for a further one
+abbrev pub is_queue_full : Act → Bool
+is_queue_full (act.Drop id cause.QueueFull) = true
+is_queue_full _ = false
 
 -- a send is answered by what became of its packet
 abbrev pub reply_to_send : List Act → Reply
 reply_to_send acts =
     if list_any is_transmit acts then reply.Sent
-    else (if list_any is_no_probes acts then reply.NoProbes else reply.Waits (queue_full_drop acts))
+    else (if list_any is_no_probes acts then reply.NoProbes else reply.Waits (length (filter is_queue_full acts)))
 
 -- and every other event is done
 abbrev pub reply_after : Op → List Act → Reply
-reply_after (op.Send key) acts = reply_to_send acts
+reply_after (op.Send key len) acts = reply_to_send acts
 reply_after _ acts = reply.Done
 
 -- nothing, the refusal, or what comes of the event

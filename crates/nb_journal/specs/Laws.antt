@@ -1,5 +1,5 @@
 -- The laws of journals, as statements of every journal.
-use Rattle.std.specs.Prelude.{◌≡◌, ℕ, ◌+◌, ◌<◌, ◌≤◌, true, is_some, List, [], ◌∷◌, ◌++◌, length, Some}
+use Rattle.std.specs.Prelude.{◌≡◌, ℕ, ◌+◌, ◌<◌, ◌≤◌, true, is_some, List, [], ◌∷◌, ◌++◌, length, Some, IfSome}
 use Rattle.std.specs.List.{list_any}
 use Rattle.nb_base.specs.declared.key.Key.{Key}
 use Rattle.nb_base.specs.declared.time.OpId.{OpId}
@@ -11,11 +11,12 @@ use Rattle.nud_machine.specs.declared.entry.Entry.{Entry}
 use Rattle.nud_machine.specs.State.{absent_entry}
 use Rattle.nud_machine.specs.Record.{record_of}
 use Rattle.nud_machine.specs.Asked.{greatest}
-use Rattle.nb_journal.specs.Keys.{is_key, is_own}
-use Rattle.nb_journal.specs.Fold.{state_of, known_keys, rank_of}
-use Rattle.nb_journal.specs.Lawful.{last_moment, due_of, NothingDue, IsNextDue, IsSweepMoment, IsCrowded, sweep_line, before_sweep, collects, full_of, IsLawful, IsBrokenOff}
-use Rattle.nb_journal.specs.Evaluated.{give_settable, IsStepped}
-use Rattle.nb_journal.specs.Accounts.{Fate, fates_of, times_sent, ends_with, with_record, published, potential, sends_to, ended_of, send_lines, fates_total, timer_line, own_lines, line_bound}
+use Rattle.nud_machine.specs.Laws.{ids_of}
+use Rattle.nb_journal.specs.Keys.{is_key, is_own, may_all_be_asked}
+use Rattle.nb_journal.specs.Fold.{state_of, known_keys, rank_of, present_count}
+use Rattle.nb_journal.specs.Lawful.{EachLine, last_moment, base_of, due_of, NothingDue, IsNextDue, IsSweepMoment, HasSeen, sweep_line, before_sweep, collects, full_of, IsOrderly, IsLawful, IsBrokenOff}
+use Rattle.nb_journal.specs.Steps.{IsStepped}
+use Rattle.nb_journal.specs.Accounts.{Fate, fates_of, times_sent, ends_with, with_record, published, potential, sends_to, ended_of, send_lines, fates_total, timer_line, own_lines, operations, line_bound}
 
 -- the keys that a journal knows are the first of those that a longer one knows
 abbrev pub KeysGrow : Type 0
@@ -54,42 +55,43 @@ GoesOnByOperation =
     → IsLawful p journal line.at
     → is_own line.op ≡ true
     → is_some line.id ≡ true
+    → HasSeen p journal line
     → line.full ≡ full_of p (journal ++ collects p journal line) line
     → IsLawful p ((journal ++ collects p journal line) ++ line ∷ []) line.at
 
--- all that is asked for before a moment stands: the journal is lawful at the clock right before it, or broken off at it
+-- all lines before a moment stand: the journal is lawful at the clock right before it, or broken off at it
 pub data StandsUpTo (p : Params) (journal : List Line) : ℕ → Type 0 where
   Lawful : (clock : ℕ) → IsLawful p journal clock → StandsUpTo p journal (clock + 1)
   BrokenOff : (clock : ℕ) → IsBrokenOff p journal clock → StandsUpTo p journal clock
 
--- from a moment on, and before another, no sweep is asked for
-abbrev pub NoSweepAsked : Params → List Line → ℕ → ℕ → Type 0
-NoSweepAsked p journal from before = (u : ℕ) → IsSweepMoment p u → from ≤ u → u < before → IsCrowded p (before_sweep u journal) → ⊥
+-- from a moment on, and before another, there is no multiple of the sweep interval
+abbrev pub NoSweepBetween : Params → ℕ → ℕ → Type 0
+NoSweepBetween p from before = (u : ℕ) → IsSweepMoment p u → from ≤ u → u < before → ⊥
 
--- a journal goes on by the timer's line of its next due, where no sweep is asked for before it
+-- a journal goes on by the timer's line of its next due, where no sweep stands before it
 abbrev pub GoesOnByTimer : Type 0
 GoesOnByTimer =
     (p : Params) (journal : List Line) (from : ℕ) (key : Key) (at : ℕ)
     → InRange p
     → StandsUpTo p journal from
     → IsNextDue p journal key at
-    → NoSweepAsked p journal from at
+    → NoSweepBetween p from at
     → IsBrokenOff p (journal ++ timer_line at key ∷ []) at
 
--- a journal goes on by the line of a sweep that is asked for, where nothing is due any more and no sweep is asked for before it
+-- a journal goes on by a sweep's line at a multiple of the interval, where nothing is due any more and no other sweep stands before it
 abbrev pub GoesOnBySweep : Type 0
 GoesOnBySweep =
-    (p : Params) (journal : List Line) (from u : ℕ)
+    (p : Params) (journal : List Line) (from u seen : ℕ)
     → InRange p
     → StandsUpTo p journal from
     → IsSweepMoment p u
     → NothingDue p journal u
     → journal ≡ before_sweep u journal
-    → IsCrowded p journal
-    → NoSweepAsked p journal from u
-    → IsLawful p (journal ++ sweep_line u ∷ []) u
+    → present_count p journal ≤ seen
+    → NoSweepBetween p from u
+    → IsLawful p (journal ++ sweep_line u seen ∷ []) u
 
--- a journal is lawful at a clock that its last line hasn't passed, where nothing is due and no sweep is asked for up to it
+-- a journal is lawful at a clock that its last line hasn't passed, where nothing is due and no sweep stands up to it
 abbrev pub GoesOnInTime : Type 0
 GoesOnInTime =
     (p : Params) (journal : List Line) (from clock : ℕ)
@@ -97,7 +99,7 @@ GoesOnInTime =
     → StandsUpTo p journal from
     → last_moment journal ≤ clock
     → NothingDue p journal clock
-    → NoSweepAsked p journal from (clock + 1)
+    → NoSweepBetween p from (clock + 1)
     → IsLawful p journal clock
 
 -- behind each line a cell has published its entry's record last: one record more, unless it is the last one again
@@ -144,7 +146,7 @@ BrokenOffInBound =
 
 -- in a lawful journal the packets to a key end in the order of their sends, each once: those that have gone out or been dropped, and then those that wait, are those that were sent
 abbrev pub PacketsLeaveInOrder : Type 0
-PacketsLeaveInOrder = (p : Params) (journal : List Line) (clock : ℕ) (key : Key) → IsLawful p journal clock → sends_to journal key ≡ ended_of p journal key ++ (state_of p journal key).waiting
+PacketsLeaveInOrder = (p : Params) (journal : List Line) (clock : ℕ) (key : Key) → IsLawful p journal clock → sends_to journal key ≡ ended_of p journal key ++ ids_of (state_of p journal key).waiting
 
 -- in a lawful journal a packet that was sent once has one fate: it was sent on, it was dropped, or it waits
 abbrev pub EachSendHasOneFate : Type 0
@@ -154,21 +156,27 @@ EachSendHasOneFate = (p : Params) (journal : List Line) (clock : ℕ) (id : OpId
 abbrev pub FatesAddUp : Type 0
 FatesAddUp = (p : Params) (journal : List Line) (clock : ℕ) → IsLawful p journal clock → fates_total p journal ≡ length (send_lines journal)
 
--- two journals that are lawful at one clock and have the same operations' lines are one
+-- a line that looked at the table saw what the lines before it and its collect lines determine
+abbrev pub Saw : (List Line → ℕ) → List Line → Line → Type 0
+Saw sees past line = IfSome line.seen (λ seen. seen ≡ sees (base_of past))
+
+-- two journals that are lawful at one clock and have the same operations are one, where the lines before a line determine what it saw, in both alike; with a table of one bucket that is the number present
 abbrev pub LawfulAreOne : Type 0
 LawfulAreOne =
-    (p : Params) (journal other : List Line) (clock : ℕ)
+    (p : Params) (sees : List Line → ℕ) (journal other : List Line) (clock : ℕ)
     → InRange p
     → IsLawful p journal clock
     → IsLawful p other clock
-    → own_lines journal ≡ own_lines other
+    → EachLine (Saw sees) journal
+    → EachLine (Saw sees) other
+    → operations journal ≡ operations other
     → journal ≡ other
 
--- the machine can step over a lawful journal at a moment of a run, whose operations give only states that may be given by hand
-abbrev pub LawfulJournalsAreStepped : Type 0
-LawfulJournalsAreStepped =
-    (p : Params) (journal : List Line) (clock : ℕ)
-    → IsLawful p journal clock
-    → clock ≤ greatest
-    → give_settable (own_lines journal) ≡ true
+-- the machine can step over a journal whose last moment is one of a run and whose operations may be asked for, whether it is lawful or broken off
+abbrev pub OrderlyJournalsAreStepped : Type 0
+OrderlyJournalsAreStepped =
+    (p : Params) (journal : List Line)
+    → IsOrderly p journal
+    → last_moment journal ≤ greatest
+    → may_all_be_asked (own_lines journal) ≡ true
     → IsStepped p journal

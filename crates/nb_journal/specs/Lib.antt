@@ -2,5 +2,5 @@ pub mod Keys
 pub mod Fold
 pub mod Lawful
 pub mod Accounts
-pub mod Evaluated
+pub mod Steps
 pub mod Laws

@@ -1,5 +1,5 @@
 //! What an operation comes to for one key.
-ghost use Rattle.std.specs.Prelude.{◌≡◌, ◌≤◌, not, if◌then◌else◌, is_none, Some, IfSome};
+ghost use Rattle.std.specs.Prelude.{◌≡◌, ◌≤◌, not, if◌then◌else◌, is_none, Some, IfSome, IsTrue};
 ghost use Rattle.nb_base.specs.declared.line.Reply.TheVariants.{Exists, Missing, NoAddress};
 ghost use Rattle.nb_base.specs.declared.nud.Nud.TheVariants.{Failed};
 ghost use Rattle.nud_machine.specs.Asked.{greatest, IsInRun};
@@ -7,12 +7,17 @@ ghost use Rattle.nud_machine.specs.State.{same_nud};
 ghost use Rattle.nud_machine.specs.declared.event.Event.TheVariants.{Admin};
 ghost use Rattle.nud_machine.specs.Update as update;
 ghost use Rattle.nb_journal.specs.Fold as spec;
+ghost use Rattle.nb_journal.specs.Keys.{may_be_asked};
 ghost use Rattle.nb_journal.specs.Lawful as lawful;
-ghost use Rattle.nb_journal.specs.Evaluated.{effect_named, state_in};
+ghost use Rattle.nb_journal.specs.Steps.{effect_named, state_in};
 
 use crate::Kept;
 use nb_base::{Line, Mac, Moment, Nud, Op, OpId, Params, Reply};
 use nud_machine::Event;
+
+/// How long no forced pass follows another one in a table that isn't full, and how long an entry that changed is kept by one,
+/// in milliseconds.
+pub const PASS_MILLIS: u32 = 5_000;
 
 /// Nothing, a refusal with its reply, or an event, for which an absent entry is made first.
 #[derive(Clone, Copy)]
@@ -27,6 +32,21 @@ pub fn id_of(line: &Line) -> OpId
     ensures { result ≡ spec.id_of line.now }
 {
     line.id.unwrap_or(OpId(0))
+}
+
+/// What a packet counts for where it waits: the bytes of its payload, and 256 more.
+fn size_of(len: u32) -> u32
+    requires { len ≤ 1500 }
+    ensures { result ≡ spec.size_of len }
+{
+    len + 256
+}
+
+/// Whether a sweep's line saw enough entries for entries to be removed.
+fn saw_enough(params: &Params, seen: Option<u32>) -> bool
+    ensures { result ≡ spec.saw_enough params.now seen }
+{
+    seen.is_some_and(|seen| seen >= params.gc_thresh1)
 }
 
 /// Whether a moment lies more than so many milliseconds back, or there is none.
@@ -84,7 +104,7 @@ pub fn is_collectable(at: Moment, kept: &Kept) -> bool
 {
     is_loose(kept)
         && !has_waiting(kept)
-        && (is_failed(kept.entry.nud) || is_past(at, Some(kept.entry.updated), 5000))
+        && (is_failed(kept.entry.nud) || is_past(at, Some(kept.entry.updated), PASS_MILLIS))
 }
 
 /// The event, or else nothing.
@@ -153,12 +173,18 @@ fn change(kept: &Kept, mac: Option<Mac>, nud: Nud) -> Effect
 
 /// What an operation comes to, by the state of the entry.
 pub fn effect_of(params: &Params, line: &Line, kept: &Kept) -> Effect
-    requires { IsInRun kept.now.entry }
+    requires moments { IsInRun kept.now.entry }
+    requires asked { IsTrue (may_be_asked line.now.op) }
     ensures { effect_named result ≡ spec.effect params.now line.now (state_in kept.now) line.now.op }
 {
     let present = kept.entry.present;
     match line.op {
-        Op::Send { .. } => Effect::Brings(Event::Send(id_of(line))),
+        Op::Send { len, .. } => {
+            Effect::Brings(Event::Send {
+                id: id_of(line),
+                size: size_of(len),
+            })
+        }
         Op::Arp {
             mac,
             make,
@@ -205,7 +231,12 @@ pub fn effect_of(params: &Params, line: &Line, kept: &Kept) -> Effect
         Op::Show => Effect::Passes,
         Op::Flush => if_so(is_loose(kept), Event::Remove),
         Op::Timer { .. } => if_so(present, Event::Timer),
-        Op::Sweep => if_so(is_swept(params, line.at, kept), Event::Remove),
+        Op::Sweep => {
+            if_so(
+                saw_enough(params, line.seen) && is_swept(params, line.at, kept),
+                Event::Remove,
+            )
+        }
         Op::Collect { .. } => if_so(present, Event::Remove),
     }
 }

@@ -2,14 +2,15 @@
 ghost use Rattle.std.specs.Prelude.{◌≡◌, ◌≤◌, [], ◌∷◌, IfOk, IsTrue, if◌then◌else◌};
 ghost use Rattle.nud_machine.specs.declared.act.Act.TheVariants.{Drop};
 ghost use Rattle.nud_machine.specs.declared.act.Cause.TheVariants.{TableFull};
+ghost use Rattle.nb_base.specs.declared.params.Params.{Params};
 ghost use Rattle.nb_base.specs.Params.{InRange};
-ghost use Rattle.nud_machine.specs.Asked.{greatest, NamesSettable, FiresAtDue};
+ghost use Rattle.nud_machine.specs.Asked.{greatest, NamesSettable, BringsSized, FiresAtDue};
 ghost use Rattle.nud_machine.specs.State as machine;
 ghost use Rattle.nud_machine.specs.Step as machine_step;
 ghost use Rattle.nb_journal.specs.Fold as fold;
 ghost use Rattle.nb_journal.specs.Keys as keys;
-ghost use Rattle.nb_journal.specs.Evaluated as spec;
-ghost use Rattle.nb_journal.specs.Evaluated.{IsKept, state_in, is_line_of_run, IsTimersDue, IsTimersMoment};
+ghost use Rattle.nb_journal.specs.Steps as spec;
+ghost use Rattle.nb_journal.specs.Steps.{IsKept, state_in, is_line_of_run, IsTimersDue, IsTimersMoment};
 
 use crate::effects::{Effect, effect_of, id_of};
 use crate::naming::{is_key, key_of};
@@ -40,7 +41,7 @@ fn is_turned_away(line: &Line, key: &Key) -> bool
     ensures { result ≡ spec.is_turned_away line.now key.now line.now.op }
 {
     match line.op {
-        Op::Send { key: named } => is_key(&named, key) && line.full.is_some(),
+        Op::Send { key: named, .. } => is_key(&named, key) && line.full.is_some(),
         _ => false,
     }
 }
@@ -57,14 +58,13 @@ fn turn_away(line: &Line, key: &Key, acts: &mut Acts)
 
 impl Kept {
     /// No entry, and no packet.
-    pub fn absent(alloc: Global, params: &Params) -> Result<Kept, AllocError>
-        requires { InRange params.now }
-        ensures kept { IfOk result (IsKept params.now) }
+    pub fn absent(alloc: Global) -> Result<Kept, AllocError>
+        ensures kept { (p : Params) → IfOk result (IsKept p) }
         ensures absent { IfOk result (λ kept. state_in kept ≡ machine.absent) }
     {
         Ok(Kept {
             entry: Entry::absent(),
-            waiting: WaitQueue::new(alloc, params.unres_qlen)?,
+            waiting: WaitQueue::new(alloc)?,
         })
     }
 
@@ -74,6 +74,7 @@ impl Kept {
         requires now { at ≤ greatest }
         requires kept { IsKept params.now self.old }
         requires settable { NamesSettable event.now }
+        requires sized { BringsSized event.now }
         requires due { FiresAtDue event.now at (if self.old.entry.present then self.old.entry else machine.made_entry at) }
         ensures kept { IsKept params.now self.new }
         ensures met { record { state = state_in self.new; acts = acts.new } ≡ machine_step.step params.now at (if self.old.entry.present then state_in self.old else machine.made at) event.now }

@@ -1,5 +1,5 @@
 //! The laws of journals. Each function does nothing: its contract is the law.
-ghost use Rattle.nb_journal.specs.Laws.{KeysGrow, RanksStay, DuesLieAhead, SweepsCutInTwo, EmptyIsLawful, LawfulEarlier, GoesOnByOperation, GoesOnByTimer, GoesOnBySweep, GoesOnInTime, CellsPublishStates, TimersLower, PotentialsAreSmall, LawfulInBound, BrokenOffInBound, PacketsLeaveInOrder, EachSendHasOneFate, FatesAddUp, LawfulAreOne, LawfulJournalsAreStepped};
+ghost use Rattle.nb_journal.specs.Laws.{KeysGrow, RanksStay, DuesLieAhead, SweepsCutInTwo, EmptyIsLawful, LawfulEarlier, GoesOnByOperation, GoesOnByTimer, GoesOnBySweep, GoesOnInTime, CellsPublishStates, TimersLower, PotentialsAreSmall, LawfulInBound, BrokenOffInBound, PacketsLeaveInOrder, EachSendHasOneFate, FatesAddUp, LawfulAreOne, OrderlyJournalsAreStepped};
 
 /// The keys that a journal knows are the first of those that a longer one knows, and each keeps its rank.
 pub fn known_keys_only_grow()
@@ -23,8 +23,8 @@ pub fn lawful_goes_on()
     ensures operation { GoesOnByOperation }
 {}
 
-/// A journal goes on by the timer's line of its next due, by the line of a sweep that is asked for, and by time alone where
-/// nothing is due and no sweep is asked for.
+/// A journal goes on by the timer's line of its next due, by a sweep's line at a multiple of the interval, and by time alone where
+/// nothing is due and no such multiple comes.
 pub fn lawful_goes_on_by_itself()
     ensures timer { GoesOnByTimer }
     ensures sweep { GoesOnBySweep }
@@ -69,13 +69,14 @@ pub fn fates_add_up()
     ensures { FatesAddUp }
 {}
 
-/// Two journals that are lawful at one clock and have the same operations' lines are one.
+/// Two journals that are lawful at one clock and have the same operations are one, where the lines before a line determine what it
+/// saw, in both alike.
 pub fn lawful_journals_are_one()
     ensures { LawfulAreOne }
 {}
 
-/// The machine can step over each line of a lawful journal whose clock is a moment of a run and whose operations give only states
-/// that may be given by hand: every moment is one of a run, and each timer's line stands at its key's due.
-pub fn lawful_journals_are_stepped()
-    ensures { LawfulJournalsAreStepped }
+/// The machine can step over each line of a journal, lawful or broken off, whose last moment is one of a run and whose operations
+/// may be asked for: every moment is one of a run, and each timer's line stands at its key's due.
+pub fn orderly_journals_are_stepped()
+    ensures { OrderlyJournalsAreStepped }
 {}

@@ -1,6 +1,6 @@
 use Rattle.std.proofs.Common.{sym, ◌∙◌}
-use Rattle.nb_journal.specs.Evaluated.{state_in}
-use Rattle.nb_journal.proofs.Evaluates.{timers_moment}
+use Rattle.nb_journal.specs.Steps.{state_in}
+use Rattle.nb_journal.proofs.Meets.{timers_moment}
 use Rattle.nb_journal.proofs.Changed.{change_met, change_missed}
 use Rattle.nb_journal.proofs.kept.Kept.go_on.Goals as goal
 

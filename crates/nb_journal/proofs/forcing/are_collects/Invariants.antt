@@ -1,6 +1,0 @@
-use Rattle.std.proofs.Common.{◌≡◌, drop}
-use Rattle.nb_journal.specs.Evaluated.{are_collects}
-use Rattle.nb_journal.proofs.forcing.are_collects.Given as goal
-
-abbrev pub invariant-loop-place : goal.invariant-loop-place
-invariant-loop-place l = are_collects l.at (drop l.place l.lines) (drop l.place l.keys) ≡ are_collects l.at l.lines l.keys
