@@ -7,7 +7,7 @@ use Rattle.nb_base.specs.declared.line.Line.{Line}
 use Rattle.nud_machine.specs.State.{State}
 use Rattle.nb_journal.specs.declared.kept.Kept.{Kept}
 use Rattle.nb_journal.specs.Fold.{state_of, known_keys, present_count, is_loose}
-use Rattle.nb_journal.specs.Evaluated.{state_in}
+use Rattle.nb_journal.specs.Steps.{state_in}
 use Rattle.nb_journal.proofs.Folds.{present_count-is}
 use Rattle.journal_fold.specs.Kept.{AreKept, number_present}
 use Rattle.journal_fold.specs.Kept as kept_in

@@ -9,7 +9,7 @@ use Rattle.nb_base.specs.contracts.key.KeyPartialEq.TheImpl.{eq-value}
 use Rattle.indexmap.specs.IndexSet.{insert_key}
 use Rattle.nb_journal.specs.Keys.{is_key}
 use Rattle.nb_journal.specs.Fold.{with_key}
-use Rattle.nb_journal.specs.Evaluated.{has_key}
+use Rattle.nb_journal.specs.Keys.{has_key}
 use Rattle.nb_journal.proofs.Changes.{is_key-same}
 use Rattle.nb_journal.proofs.Grows.{is_key-one}
 use Rattle.nb_journal.proofs.Counts.{is_key-flip}

@@ -5,5 +5,8 @@ pub mod Named
 pub mod Replied
 pub mod Counted
 pub mod Whole
-pub mod Shown
+pub mod Looks
 pub mod Ranks
+pub mod Heard
+pub mod Removed
+pub mod Touches

@@ -1,24 +1,23 @@
 -- A line that names a key: its acts, and the states behind it.
-use Rattle.std.proofs.Common.{◌≡◌, ⊎_elim, ℕ, Bool, true, false, ◌||◌, if◌then◌else◌, List, [], ◌∷◌, ◌++◌, map, set, slice_get, Some, refl, sym, ap, subst, ◌∙◌, append-nil}
+use Rattle.std.proofs.Common.{◌≡◌, ℕ, Bool, true, false, if◌then◌else◌, List, [], ◌∷◌, ◌++◌, map, set, slice_get, Some, refl, sym, ap, subst, ◌∙◌}
 use Rattle.std.specs.List.{flat_map, AllByRecursion}
-use Rattle.std.proofs.lemmas.Bool.{or_parts}
 use Rattle.std.proofs.lemmas.Option.{slice_get-map}
 use Rattle.std.specs.Option.{option_map}
 use Rattle.nb_base.specs.declared.key.Key.{Key}
 use Rattle.nb_base.specs.declared.params.Params.{Params}
 use Rattle.nb_base.specs.declared.line.Line.{Line}
-use Rattle.nud_machine.specs.declared.act.Act.{Act}
 use Rattle.nud_machine.specs.State.{State, Stepped}
 use Rattle.nb_journal.specs.declared.kept.Kept.{Kept}
 use Rattle.nb_journal.specs.Keys.{is_key, key_of}
 use Rattle.nb_journal.specs.Fold.{state_of, acts_of, with_key, known_keys}
 use Rattle.nb_journal.specs.Accounts.{acts_at}
-use Rattle.nb_journal.specs.Evaluated.{IsKept, has_key, state_in}
+use Rattle.nb_journal.specs.Steps.{IsKept, state_in}
+use Rattle.nb_journal.specs.Keys.{has_key}
 use Rattle.nb_journal.proofs.Changes.{is_key-same, change-other}
 use Rattle.nb_journal.proofs.Folds.{state_of-snoc}
-use Rattle.nb_journal.proofs.Counts.{AreDistinct, key_cases, is_key-flip, has_key-snoc, known_keys-distinct}
+use Rattle.nb_journal.proofs.Counts.{AreDistinct, is_key-flip, has_key-snoc, known_keys-distinct}
 use Rattle.journal_fold.specs.Kept.{AreKept}
-use Rattle.journal_fold.proofs.Places.{has_at, map_same, map_but_one}
+use Rattle.journal_fold.proofs.Places.{has_at, map_same, map_but_one, none_among, one_among}
 
 pub has_with : (keys : List Key) (key : Key) → has_key (with_key keys (Some key)) key ≡ true
 has_with keys key = by_test (has_key keys key) refl where
@@ -31,25 +30,14 @@ none_of : (p : Params) (past : List Line) (line : Line) (key other : Key) → ke
 none_of p past line key other names off = ap (λ (d : Stepped). d.acts) (change-other p line key other (state_of p past other) names off)
 
 pub none_at : (p : Params) (past : List Line) (line : Line) (key : Key) (keys : List Key) → key_of line.op ≡ Some key → has_key keys key ≡ false → flat_map (acts_of p past line) keys ≡ []
-none_at p past line key [] names off = refl
-none_at p past line key (k ∷ ks) names off =
-    let parts = or_parts (is_key k key) (has_key ks key) off in
-    rw (none_of p past line key k names (is_key-flip k key parts.0), none_at p past line key ks names parts.1) refl
+none_at p past line key keys names off = none_among (acts_of p past line) keys key (λ other apart. none_of p past line key other names (is_key-flip other key apart)) off
 
 -- so the acts of the line are those of its key
 pub acts_one : (p : Params) (past : List Line) (line : Line) (key : Key) (keys : List Key) → key_of line.op ≡ Some key → AreDistinct keys → has_key keys key ≡ true → flat_map (acts_of p past line) keys ≡ acts_of p past line key
-acts_one p past line key [] names d there = cc
-acts_one p past line key (k ∷ ks) names d there = ⊎_elim
-    (λ (same : key ≡ k).
-    let rest = none_at p past line key ks names (ap (has_key ks) same ∙ d.0) in
-    ap (λ (acts : List Act). acts_of p past line k ++ acts) rest ∙ append-nil (acts_of p past line k) ∙ ap (acts_of p past line) (sym same))
-    (λ (off : is_key key k ≡ false).
-    let more : has_key ks key ≡ true = ap (λ (b : Bool). b || has_key ks key) (sym (is_key-flip key k off)) ∙ there in
-    ap (λ (acts : List Act). acts ++ flat_map (acts_of p past line) ks) (none_of p past line key k names off) ∙ acts_one p past line key ks names d.1 more)
-    (key_cases key k)
+acts_one p past line key keys names d there = one_among (acts_of p past line) keys key (λ other apart. none_of p past line key other names (is_key-flip other key apart)) d there
 
 -- a key that the line doesn't name keeps its state
-other_stays : (p : Params) (past : List Line) (line : Line) (key other : Key) → key_of line.op ≡ Some key → is_key other key ≡ false → state_of p (past ++ line ∷ []) other ≡ state_of p past other
+pub other_stays : (p : Params) (past : List Line) (line : Line) (key other : Key) → key_of line.op ≡ Some key → is_key other key ≡ false → state_of p (past ++ line ∷ []) other ≡ state_of p past other
 other_stays p past line key other names off = state_of-snoc p past line other ∙ ap (λ (s : Stepped). s.state) (change-other p line key other (state_of p past other) names (is_key-flip other key off))
 
 -- so a line changes the entry of its key alone

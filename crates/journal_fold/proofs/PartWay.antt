@@ -1,8 +1,6 @@
 -- Entries by rank of which the first have taken a line.
-use Rattle.std.proofs.Common.{◌≡◌, ℕ, ◌+◌, ◌≤◌, zero, suc, List, [], ◌∷◌, ◌++◌, map, set, take, drop, length, slice_get, Some, Result, Ok, Err, OnOk, is_ok, true, refl, sym, ap, ◌∙◌, arith}
-use Rattle.std.specs.declared.alloc.AllocError.{AllocError}
+use Rattle.std.proofs.Common.{◌≡◌, ℕ, ◌+◌, ◌≤◌, zero, suc, List, [], ◌∷◌, ◌++◌, map, set, take, drop, length, slice_get, Some, refl, sym, ap, ◌∙◌, arith}
 use Rattle.nb_base.specs.declared.key.Key.{Key}
-use Rattle.nud_machine.specs.declared.act.Act.{Act}
 
 -- the first so many of the keys are at g, the others at f
 abbrev pub part_way : {X : Type 0} → (Key → X) → (Key → X) → ℕ → List Key → List X
@@ -29,9 +27,3 @@ all_done g f zero [] le = refl
 all_done g f (suc n) [] le = refl
 all_done g f zero (k ∷ ks) le = absurd (omega (arith, le))
 all_done g f (suc n) (k ∷ ks) le = ap (λ (xs : List _). g k ∷ xs) (all_done g f n ks (omega (arith, le)))
-
--- the acts so far, with those of the next key
-pub told_more : (before after : Result (Unit {0}) AllocError) (first so_far next more all : List Act) → OnOk after (is_ok before ≡ true) → OnOk after (more ≡ so_far ++ next) → OnOk before (so_far ≡ first) → first ++ next ≡ all → OnOk after (more ≡ all)
-told_more before (Err e) first so_far next more all ok put told done = tt
-told_more (Err e) (Ok u) first so_far next more all ok put told done = cc
-told_more (Ok v) (Ok u) first so_far next more all ok put told done = put ∙ ap (λ (acts : List Act). acts ++ next) told ∙ done

@@ -1,8 +1,8 @@
 -- Entries by rank: one at a place, one more behind the others, and one that is changed.
-use Rattle.std.proofs.Common.{◌≡◌, ⊎_elim, ℕ, ◌+◌, ◌-◌, ◌≤◌, zero, suc, Bool, true, false, if◌then◌else◌, List, [], ◌∷◌, ◌++◌, map, set, length, get_or, slice_get, Option, Some, None, IfSome, is_some, refl, sym, ap, subst, ◌∙◌, arith}
+use Rattle.std.proofs.Common.{◌≡◌, ⊎_elim, ℕ, ◌+◌, ◌-◌, ◌≤◌, zero, suc, Bool, true, false, ◌||◌, if◌then◌else◌, List, [], ◌∷◌, ◌++◌, map, set, length, get_or, slice_get, Option, Some, None, IfSome, is_some, refl, sym, ap, subst, ◌∙◌, arith, append-nil}
 use mir.Val.{bool_byte}
 use Rattle.std.specs.Prelude.{filter}
-use Rattle.std.specs.List.{AllByRecursion}
+use Rattle.std.specs.List.{AllByRecursion, flat_map}
 use Rattle.std.proofs.lemmas.Bool.{false≢true, or_parts}
 use Rattle.std.proofs.lemmas.List.{map-append, length-set}
 use Rattle.nb_base.specs.declared.key.Key.{Key}
@@ -10,12 +10,13 @@ use Rattle.nb_base.specs.declared.params.Params.{Params}
 use Rattle.nb_base.specs.declared.line.Line.{Line}
 use Rattle.nud_machine.specs.State.{State}
 use Rattle.nb_journal.specs.declared.kept.Kept.{Kept}
-use Rattle.nb_journal.specs.Keys.{is_key}
+use Rattle.nb_journal.specs.Keys.{is_key, place_among}
 use Rattle.nb_journal.specs.Fold.{state_of, known_keys}
-use Rattle.nb_journal.specs.Evaluated.{IsKept, has_key, state_in}
+use Rattle.nb_journal.specs.Steps.{IsKept, state_in}
+use Rattle.nb_journal.specs.Keys.{has_key}
 use Rattle.nb_journal.proofs.Folds.{filter_within}
 use Rattle.nb_journal.proofs.Changes.{is_key-same}
-use Rattle.nb_journal.proofs.Counts.{AreDistinct, key_cases, state_of-unknown}
+use Rattle.nb_journal.proofs.Counts.{AreDistinct, key_cases, is_key-flip, state_of-unknown}
 use Rattle.journal_fold.specs.Kept.{AreKept, IsReady, is_present, number_present}
 
 -- ---- each of a list
@@ -35,6 +36,18 @@ pub has_at : (keys : List Key) (rank : ℕ) (key : Key) → slice_get keys rank 
 has_at [] rank key e = cc
 has_at (k ∷ ks) zero key e = let same : k ≡ key = cc in rw (same, is_key-same key) refl
 has_at (k ∷ ks) (suc rank) key e = let there = has_at ks rank key e in grind arith
+
+-- the place of a key that stands once
+pub place_at : (keys : List Key) (rank : ℕ) (key : Key) → AreDistinct keys → slice_get keys rank ≡ Some key → place_among keys key ≡ rank
+place_at [] rank key d at = cc
+place_at (k ∷ ks) zero key d at = let same : k ≡ key = cc in rw (same, is_key-same key) refl
+place_at (k ∷ ks) (suc rank) key d at =
+    let there = has_at ks rank key at in
+    let rest = place_at ks rank key d.1 at in
+    ⊎_elim
+    (λ (one : k ≡ key). absurd (false≢true (sym d.0 ∙ rw one there)))
+    (λ (off : is_key k key ≡ false). rw off (omega (arith, rest)))
+    (key_cases k key)
 
 pub map_same : {X : Type 0} (f g : Key → X) (keys : List Key) (key : Key) → has_key keys key ≡ false → ((other : Key) → is_key other key ≡ false → g other ≡ f other) → map g keys ≡ map f keys
 map_same f g [] key h same = refl
@@ -59,6 +72,26 @@ map_but_one f g (k ∷ ks) (suc rank) key d at same =
     (λ (one : k ≡ key). absurd (false≢true (sym d.0 ∙ rw one there)))
     (λ (off : is_key k key ≡ false). let here = same k off in cc)
     (key_cases k key)
+
+-- ---- lists of one key among others that have none
+
+pub none_among : {X : Type 0} (f : Key → List X) (keys : List Key) (key : Key) → ((other : Key) → is_key other key ≡ false → f other ≡ []) → has_key keys key ≡ false → flat_map f keys ≡ []
+none_among f [] key none h = refl
+none_among f (k ∷ ks) key none h =
+    let apart = or_parts (is_key k key) (has_key ks key) h in
+    rw (none k apart.0, none_among f ks key none apart.1) refl
+
+pub one_among : {X : Type 0} (f : Key → List X) (keys : List Key) (key : Key) → ((other : Key) → is_key other key ≡ false → f other ≡ []) → AreDistinct keys → has_key keys key ≡ true → flat_map f keys ≡ f key
+one_among f [] key none d there = cc
+one_among f (k ∷ ks) key none d there = ⊎_elim
+    (λ (same : key ≡ k).
+    let rest = none_among f ks key none (ap (has_key ks) same ∙ d.0) in
+    ap (λ (xs : List _). f k ++ xs) rest ∙ append-nil (f k) ∙ ap f (sym same))
+    (λ (off : is_key key k ≡ false).
+    let turned = is_key-flip key k off in
+    let more : has_key ks key ≡ true = ap (λ (b : Bool). b || has_key ks key) (sym turned) ∙ there in
+    ap (λ (xs : List _). xs ++ flat_map f ks) (none k turned) ∙ one_among f ks key none d.1 more)
+    (key_cases key k)
 
 pub size_one : {X : Type 0} (b : Bool) (x : X) (xs : List X) → length (if b then x ∷ xs else xs) ≡ length xs + (if b then 1 else 0)
 size_one true x xs = omega arith

@@ -6,7 +6,7 @@ use Rattle.std.specs.Option.{option_map}
 use Rattle.nb_base.specs.declared.key.Key.{Key}
 use Rattle.nud_machine.specs.State.{State}
 use Rattle.nb_journal.specs.declared.kept.Kept.{Kept}
-use Rattle.nb_journal.specs.Evaluated.{state_in}
+use Rattle.nb_journal.specs.Steps.{state_in}
 
 -- there are as many entries as keys
 pub as_many : (f : Key → State) (keys : List Key) (kept : List Kept) → map state_in kept ≡ map f keys → length kept ≡ length keys

@@ -11,7 +11,7 @@ use Rattle.nb_base.specs.declared.line.Reply.TheVariants.{Counted}
 use Rattle.nb_journal.specs.Keys.{key_of, made_known, is_own}
 use Rattle.nb_journal.specs.Fold.{Effect, Passes, Refuses, Brings, effect, state_of, acts_of, with_key, known_keys, reply_to_send, reply_after, reply_to_effect, reply_for, reply_by, reply_of, present_count, is_loose}
 use Rattle.nb_journal.specs.Accounts.{acts_at}
-use Rattle.nb_journal.specs.Evaluated.{has_key}
+use Rattle.nb_journal.specs.Keys.{has_key}
 use Rattle.nb_journal.proofs.Folds.{known_keys-snoc}
 use Rattle.nb_journal.proofs.Counts.{known_keys-distinct}
 use Rattle.journal_fold.specs.Verdicts.{verdict_by, IsVerdict}
@@ -20,7 +20,7 @@ use Rattle.journal_fold.proofs.Named.{has_with, acts_one}
 reply_same : (p : Params) (past : List Line) (line : Line) (key : Key) → key_of line.op ≡ Some key → reply_after line.op (acts_of p past line key) ≡ reply_after line.op (acts_at p past line)
 reply_same p past line key names = by_op line.op refl names where
   by_op : (o : Op) → line.op ≡ o → key_of o ≡ Some key → reply_after o (acts_of p past line key) ≡ reply_after o (acts_at p past line)
-  by_op (op.Send k) is e =
+  by_op (op.Send k len) is e =
       let made : made_known line.op ≡ Some key = ap made_known is ∙ e in
       let there = ap (λ (ks : List Key). has_key ks key) (known_keys-snoc past line ∙ ap (with_key (known_keys past)) made) ∙ has_with (known_keys past) key in
       ap reply_to_send (sym (acts_one p past line key (known_keys (past ++ line ∷ [])) names (known_keys-distinct (past ++ line ∷ [])) there))
@@ -33,7 +33,7 @@ named_reply p past line key own names = by_op line.op own names where
   by_key k e = let same : k ≡ key = cc in ap (λ (x : Key). reply_for p past line x line.full) same
 
   by_op : (o : Op) → is_own o ≡ true → key_of o ≡ Some key → (if is_own o then reply_by p past line o (key_of o) else None) ≡ reply_for p past line key line.full
-  by_op (op.Send k) mine e = by_key k e
+  by_op (op.Send k len) mine e = by_key k e
   by_op (op.Arp k mac make solicited) mine e = by_key k e
   by_op (op.Ns k mac) mine e = by_key k e
   by_op (op.Na k mac router solicited overrides) mine e = by_key k e

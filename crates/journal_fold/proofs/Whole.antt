@@ -9,7 +9,7 @@ use Rattle.nb_base.specs.Params.{InRange}
 use Rattle.nb_journal.specs.declared.kept.Kept.{Kept}
 use Rattle.nb_journal.specs.Keys.{key_of, made_known}
 use Rattle.nb_journal.specs.Fold.{state_of, with_key, known_keys, present_count}
-use Rattle.nb_journal.specs.Evaluated.{state_in}
+use Rattle.nb_journal.specs.Steps.{state_in}
 use Rattle.nb_journal.proofs.Folds.{known_keys-nil, known_keys-snoc, present_count-is}
 use Rattle.journal_fold.specs.declared.fold.Fold.TheInside.{Inside}
 use Rattle.journal_fold.specs.Keeps.{IsFold}
@@ -25,14 +25,15 @@ pub counts : (f : Inside) → IsFold f → f.present ≡ number_present f.kept.i
 counts f h = h.present ∙ sym (number_is f.params f.lines.items f.kept.items (are_kept f h))
 
 -- the parts of a fold make a whole one
-pub whole : (f : Inside) (lines : List Line) → f.lines.items ≡ lines → InRange f.params → IfSome f.next (IsReady f.params) → f.keys.keys ≡ known_keys lines
+pub whole : (f : Inside) (lines : List Line) → f.lines.items ≡ lines → InRange f.params → IsReady f.params f.blank → IfSome f.next (IsReady f.params) → f.keys.keys ≡ known_keys lines
     → AreKept f.params lines f.keys.keys f.kept.items → f.present ≡ number_present f.kept.items → IsFold f
-whole f lines are params next keys kept present = record {
+whole f lines are params blank next keys kept present = record {
   params = params;
   keys = keys ∙ ap known_keys (sym are);
   states = rw are (kept.states ∙ ap (map (state_of f.params lines)) keys);
   kept = kept.each;
   present = present ∙ number_is f.params lines f.kept.items (subst (λ (named : List Key). AreKept f.params lines named f.kept.items) keys kept) ∙ ap (present_count f.params) (sym are);
+  blank = blank;
   next = next;
 }
 
@@ -47,7 +48,7 @@ found f rank key one h at is =
     (state_at f.params f.lines.items (known_keys f.lines.items) f.kept.items rank key (ap (λ (keys : List Key). slice_get keys rank) (sym h.keys) ∙ at) (are_kept f h))
 
 unnamed_new : (o : Op) → key_of o ≡ None → made_known o ≡ None
-unnamed_new (op.Send key) e = cc
+unnamed_new (op.Send key len) e = cc
 unnamed_new (op.Arp key mac make solicited) e = cc
 unnamed_new (op.Ns key mac) e = cc
 unnamed_new (op.Na key mac router solicited overrides) e = cc

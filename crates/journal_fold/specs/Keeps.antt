@@ -5,7 +5,7 @@ use Rattle.indexmap.specs.IndexSet.{spare}
 use Rattle.nb_base.specs.Params.{InRange}
 use Rattle.nud_machine.specs.State.{absent}
 use Rattle.nb_journal.specs.Fold.{state_of, known_keys, present_count}
-use Rattle.nb_journal.specs.Evaluated.{IsKept, state_in}
+use Rattle.nb_journal.specs.Steps.{IsKept, state_in}
 use Rattle.journal_fold.specs.declared.fold.Fold.TheInside.{Inside}
 use Rattle.journal_fold.specs.Taken.{Taken}
 
@@ -24,5 +24,7 @@ pub record IsFold (f : Inside) : Type 0 where
   pub states : map state_in f.kept.items ≡ map (state_of f.params f.lines.items) (known_keys f.lines.items)
   pub kept : AllByRecursion (IsKept f.params) f.kept.items
   pub present : f.present ≡ present_count f.params f.lines.items
+  -- the entry of a key that isn't known
+  pub blank : IsKept f.params f.blank × (state_in f.blank ≡ absent)
   -- the parts of the next key lie ready
   pub next : IfSome f.next (λ kept. IsKept f.params kept × (state_in kept ≡ absent))

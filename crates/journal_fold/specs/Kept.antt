@@ -6,7 +6,7 @@ use Rattle.nb_base.specs.declared.line.Line.{Line}
 use Rattle.nb_base.specs.declared.params.Params.{Params}
 use Rattle.nud_machine.specs.State.{absent}
 use Rattle.nb_journal.specs.declared.kept.Kept.{Kept}
-use Rattle.nb_journal.specs.Evaluated.{IsKept, state_in}
+use Rattle.nb_journal.specs.Steps.{IsKept, state_in}
 use Rattle.nb_journal.specs.Fold as rules
 use Rattle.nb_journal.specs.Fold.{state_of}
 

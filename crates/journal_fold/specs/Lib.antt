@@ -2,3 +2,6 @@ pub mod Taken
 pub mod Keeps
 pub mod Kept
 pub mod Verdicts
+pub mod Hearing
+pub mod Touched
+pub mod Removing

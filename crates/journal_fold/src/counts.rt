@@ -1,6 +1,7 @@
-//! How many entries are of a kind.
-ghost use Rattle.std.specs.Prelude.{◌≡◌, filter, length};
+//! How many entries are of a kind, and how many packets wait.
+ghost use Rattle.std.specs.Prelude.{◌≡◌, ◌<◌, ◌^◌, filter, length};
 ghost use Rattle.journal_fold.specs.Kept as kept_in;
+ghost use Rattle.journal_fold.specs.Removing.{number_waiting};
 
 use nb_journal::{Kept, is_loose};
 
@@ -13,6 +14,18 @@ pub fn count_loose(kept: &[Kept]) -> usize
         if is_loose(one) {
             count += 1;
         }
+    }
+    count
+}
+
+/// How many packets wait.
+pub fn count_waiting(kept: &[Kept]) -> usize
+    requires { length kept.now < 2 ^ 32 }
+    ensures { result ≡ number_waiting kept.now }
+{
+    let mut count = 0;
+    for one in kept {
+        count += one.waiting.len() as usize;
     }
     count
 }

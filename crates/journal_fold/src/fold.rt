@@ -1,17 +1,21 @@
 //! The keys of a journal with their entries, kept up with its lines.
-ghost use Rattle.std.specs.Prelude.{◌≡◌, ◌<◌, ◌≤◌, ◌+◌, ◌-◌, ◌^◌, ◌++◌, ◌∷◌, [], true, None, Some, IfSome, IfOk, OnOk, OnErr, is_some, map, length, vec_len, vec_capacity};
+ghost use Rattle.std.specs.Prelude.{◌≡◌, ◌<◌, ◌≤◌, ◌+◌, ◌-◌, ◌^◌, ◌++◌, ◌∷◌, [], true, None, Some, IfSome, IfOk, OnOk, OnErr, IsTrue, is_some, map, length, vec_len, vec_capacity};
 ghost use Rattle.std.specs.List.{AllByRecursion};
 ghost use Rattle.nb_base.specs.Params.{InRange};
 ghost use Rattle.nb_journal.specs.Accounts.{acts_at};
-ghost use Rattle.nb_journal.specs.Evaluated.{IsKept, IsStep, state_in, has_key, effect_named};
+ghost use Rattle.nb_journal.specs.Steps.{IsKept, IsStep, state_in, effect_named};
+ghost use Rattle.nb_journal.specs.Keys.{has_key, may_be_asked};
 ghost use Rattle.nb_journal.specs.Fold as rules;
 ghost use Rattle.nb_journal.specs.Keys as keys_of;
 ghost use Rattle.journal_fold.specs.Verdicts.{IsVerdict};
+ghost use Rattle.journal_fold.specs.Hearing.{Hears};
 
-use crate::absent::effect_on_absent;
-use crate::counts::count_loose;
+mod taking;
+
+use crate::counts::{count_loose, count_waiting};
+use crate::hearing::{Hearer, Nobody};
 use crate::known::{find_rank, make_known, reserve_key};
-use crate::steps::{go_on_each, go_on_each_with_acts, go_on_named};
+use crate::steps::{go_on_each, go_on_named};
 use crate::verdict::{Verdict, counted, reply_by, verdict_by};
 use indexmap::IndexSet;
 use nb_base::{Key, Line, Op, Params, Reply};
@@ -41,6 +45,8 @@ pub struct Fold {
     keys: IndexSet<Key>,
     kept: Vec<Kept>,
     next: Option<Kept>,
+    /// The entry of every key that isn't known.
+    blank: Kept,
     present: usize,
 }
 
@@ -62,13 +68,15 @@ impl Fold {
         ensures params { IfOk result (λ f. f.params ≡ params.now) }
         ensures lines { IfOk result (λ f. f.lines ≡ []) }
     {
-        let next = Kept::absent(alloc, params)?;
+        let next = Kept::absent(alloc)?;
+        let blank = Kept::absent(alloc)?;
         Ok(Fold {
             params: *params,
             lines: Vec::new(alloc),
             keys: IndexSet::new(alloc),
             kept: Vec::new(alloc),
             next: Some(next),
+            blank,
             present: 0,
         })
     }
@@ -113,6 +121,15 @@ impl Fold {
         Some(&self.kept[rank])
     }
 
+    /// The key's rank, its place in the order in which the keys became known; `None` exactly where it isn't known.
+    pub fn rank_of(&self, key: &Key) -> Option<usize>
+        ensures known { is_some result ≡ has_key (rules.known_keys self.now.lines) key.now }
+        ensures rank { IfSome result (λ rank. rank ≡ rules.rank_of self.now.lines key.now) }
+    {
+        let rank = find_rank(&self.keys, key)?;
+        Some(rank)
+    }
+
     /// How many entries are present.
     pub fn present(&self) -> usize
         ensures { result ≡ rules.present_count self.now.params self.now.lines }
@@ -122,11 +139,12 @@ impl Fold {
 
     /// What the line's operation comes to for the key.
     pub fn effect_of(&self, line: &Line, key: &Key) -> Effect
+        requires { IsTrue (may_be_asked line.now.op) }
         ensures { effect_named result ≡ rules.effect self.now.params line.now (rules.state_of self.now.params self.now.lines key.now) line.now.op }
     {
         match self.find(key) {
             Some(kept) => effect_of(&self.params, line, kept),
-            None => effect_on_absent(line),
+            None => effect_of(&self.params, line, &self.blank),
         }
     }
 
@@ -134,6 +152,7 @@ impl Fold {
     fn verdict_for(&self, line: &Line, key: &Key) -> Verdict
         requires own { keys_of.is_own line.now.op ≡ true }
         requires names { keys_of.key_of line.now.op ≡ Some key.now }
+        requires asked { IsTrue (may_be_asked line.now.op) }
         ensures { IsVerdict self.now.params self.now.lines line.now result }
     {
         match line.full {
@@ -145,6 +164,7 @@ impl Fold {
     /// The reply to a line, as far as it is known before its acts.
     fn verdict(&self, line: &Line) -> Verdict
         requires few { length self.now.lines < 2 ^ 32 }
+        requires asked { IsTrue (may_be_asked line.now.op) }
         ensures { IsVerdict self.now.params self.now.lines line.now result }
     {
         if !is_own(&line.op) {
@@ -168,13 +188,7 @@ impl Fold {
         ensures place { OnOk result (self.new.has_place ≡ true) }
     {
         self.lines.reserve(lines)?;
-        reserve_key(
-            alloc,
-            &self.params,
-            &mut self.keys,
-            &mut self.kept,
-            &mut self.next,
-        )
+        reserve_key(alloc, &mut self.keys, &mut self.kept, &mut self.next)
     }
 
     /// The key that the line makes known goes behind the others, and the line's step on the key that it names.
@@ -210,8 +224,8 @@ impl Fold {
         push_line(&mut self.lines, *line);
     }
 
-    /// The line's step on each key, where it names none.
-    fn step_each(&mut self, line: &Line, room: &mut Acts)
+    /// The line's step on each key, where it names none. The hearer hears the acts.
+    fn step_each<H: Hearer>(&mut self, line: &Line, room: &mut Acts, hearer: &mut H)
         requires step { IsStep self.old.params self.old.lines line.now }
         requires names { keys_of.key_of line.now.op ≡ None }
         requires room { 0 < self.old.room }
@@ -219,6 +233,7 @@ impl Fold {
         ensures params { self.new.params ≡ self.old.params }
         ensures room { self.old.room ≤ self.new.room + 1 }
         ensures place { self.new.has_place ≡ self.old.has_place }
+        ensures heard { Hears (H.heard hearer.old) (H.room hearer.old) (H.heard hearer.new) (H.room hearer.new) (acts_at self.old.params self.old.lines line.now) }
     {
         go_on_each(
             self.keys.as_slice(),
@@ -228,41 +243,41 @@ impl Fold {
             &self.lines,
             line,
             room,
+            hearer,
         );
         push_line(&mut self.lines, *line);
     }
 
-    /// The line's step on each key, where it names none; its acts go behind the others, by rank, while there is memory for them.
-    fn step_each_with_acts(
-        &mut self,
-        line: &Line,
-        room: &mut Acts,
-        acts: &mut Vec<Act>,
-    ) -> Result<(), AllocError>
+    /// The step of a line and its reply. The hearer hears its acts, by rank of their keys; `acts` becomes the acts of a line that names
+    /// a key.
+    fn step<H: Hearer>(&mut self, line: &Line, acts: &mut Acts, hearer: &mut H) -> Option<Reply>
+        requires few { length self.old.lines < 2 ^ 32 }
         requires step { IsStep self.old.params self.old.lines line.now }
-        requires names { keys_of.key_of line.now.op ≡ None }
         requires room { 0 < self.old.room }
+        requires place { self.old.has_place ≡ true }
+        ensures reply { result ≡ rules.reply_of self.old.params self.old.lines line.now }
         ensures lines { self.new.lines ≡ self.old.lines ++ line.now ∷ [] }
         ensures params { self.new.params ≡ self.old.params }
-        ensures acts { OnOk result (acts.new.items ≡ acts.old.items ++ acts_at self.old.params self.old.lines line.now) }
+        ensures room { self.old.room ≤ self.new.room + 1 }
+        ensures place { keys_of.made_known line.now.op ≡ None → self.new.has_place ≡ true }
+        ensures acts { is_some (keys_of.key_of line.now.op) ≡ true → acts.new ≡ acts_at self.old.params self.old.lines line.now }
+        ensures few { is_some (keys_of.key_of line.now.op) ≡ true → length (acts_at self.old.params self.old.lines line.now) ≤ 66 }
+        ensures heard { Hears (H.heard hearer.old) (H.room hearer.old) (H.heard hearer.new) (H.room hearer.new) (acts_at self.old.params self.old.lines line.now) }
     {
-        let told = go_on_each_with_acts(
-            self.keys.as_slice(),
-            &mut self.kept,
-            &mut self.present,
-            &self.params,
-            &self.lines,
-            line,
-            room,
-            acts,
-        );
-        push_line(&mut self.lines, *line);
-        told
+        let verdict = self.verdict(line);
+        match key_of(&line.op) {
+            Some(key) => {
+                self.step_named(line, &key, acts);
+                hearer.hear(acts.as_slice());
+            }
+            None => self.step_each(line, acts, hearer),
+        }
+        reply_by(verdict, line, acts.as_slice())
     }
 
-    /// Takes a line behind the others, and answers its reply where it is an own line. `acts` becomes the acts of a line that names a
+    /// Appends a line to the others, and answers its reply where it is an own line. `acts` becomes the acts of a line that names a
     /// key, and is left with no meaning by every other. Takes no memory: room for the line, and for one key more, has to be there.
-    pub fn take(&mut self, line: &Line, acts: &mut Acts) -> Option<Reply>
+    pub fn append(&mut self, line: &Line, acts: &mut Acts) -> Option<Reply>
         requires few { length self.old.lines < 2 ^ 32 }
         requires step { IsStep self.old.params self.old.lines line.now }
         requires room { 0 < self.old.room }
@@ -274,17 +289,24 @@ impl Fold {
         ensures place { keys_of.made_known line.now.op ≡ None → self.new.has_place ≡ true }
         ensures acts { is_some (keys_of.key_of line.now.op) ≡ true → acts.new ≡ acts_at self.old.params self.old.lines line.now }
     {
-        let verdict = self.verdict(line);
-        match key_of(&line.op) {
-            Some(key) => self.step_named(line, &key, acts),
-            None => self.step_each(line, acts),
-        }
-        reply_by(verdict, line, acts.as_slice())
+        self.step(line, acts, &mut Nobody)
     }
 
-    /// Takes a line as `take` does, with the memory that it needs, and puts its acts behind the others, by rank of their keys.
-    /// Where memory runs out the line isn't taken, or it is taken and not all of its acts are there.
-    pub fn take_with_acts(
+    /// How many acts a line has at most.
+    fn most_acts(&self, line: &Line) -> usize
+        requires { length self.now.lines < 2 ^ 32 }
+        ensures named { is_some (keys_of.key_of line.now.op) ≡ true → result ≡ 66 }
+        ensures each { keys_of.key_of line.now.op ≡ None → length (acts_at self.now.params self.now.lines line.now) ≤ result }
+    {
+        match key_of(&line.op) {
+            Some(_) => Acts::MOST,
+            None => count_waiting(&self.kept),
+        }
+    }
+
+    /// Appends a line as `append` does, with the memory that it needs, and puts its acts behind the others, by rank of their keys.
+    /// A refusal, which only want of memory brings, leaves the lines and the acts as before.
+    pub fn append_with_acts(
         &mut self,
         alloc: Global,
         line: &Line,
@@ -295,19 +317,13 @@ impl Fold {
         requires step { IsStep self.old.params self.old.lines line.now }
         ensures reply { IfOk result (λ reply. reply ≡ rules.reply_of self.old.params self.old.lines line.now) }
         ensures lines { OnOk result (self.new.lines ≡ self.old.lines ++ line.now ∷ []) }
-        ensures refused { OnErr result ((self.new.lines ≡ self.old.lines → ⊥) → self.new.lines ≡ self.old.lines ++ line.now ∷ []) }
+        ensures refused { OnErr result (self.new.lines ≡ self.old.lines) }
         ensures params { self.new.params ≡ self.old.params }
         ensures acts { OnOk result (acts.new.items ≡ acts.old.items ++ acts_at self.old.params self.old.lines line.now) }
+        ensures no_acts { OnErr result (acts.new.items ≡ acts.old.items) }
     {
+        acts.reserve(self.most_acts(line))?;
         self.reserve(alloc, 1)?;
-        let verdict = self.verdict(line);
-        match key_of(&line.op) {
-            Some(key) => {
-                self.step_named(line, &key, room);
-                acts.extend_from_slice(room.as_slice())?;
-            }
-            None => self.step_each_with_acts(line, room, acts)?,
-        }
-        Ok(reply_by(verdict, line, room.as_slice()))
+        Ok(self.step(line, room, acts))
     }
 }

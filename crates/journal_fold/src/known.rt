@@ -3,9 +3,9 @@ ghost use Rattle.std.specs.Prelude.{◌≡◌, ◌<◌, ◌++◌, ◌∷◌, [],
 ghost use Rattle.indexmap.specs.IndexSet.{spare};
 ghost use Rattle.nb_base.specs.declared.line.Line.{Line};
 ghost use Rattle.nb_base.specs.declared.params.Params.{Params};
-ghost use Rattle.nb_base.specs.Params.{InRange};
 ghost use Rattle.nud_machine.specs.State.{absent};
-ghost use Rattle.nb_journal.specs.Evaluated.{has_key, state_in};
+ghost use Rattle.nb_journal.specs.Keys.{has_key};
+ghost use Rattle.nb_journal.specs.Steps.{state_in};
 ghost use Rattle.nb_journal.specs.Fold as rules;
 ghost use Rattle.nb_journal.specs.Keys as keys_of;
 ghost use Rattle.journal_fold.specs.Kept.{AreKept, IsReady, number_present};
@@ -26,16 +26,13 @@ pub fn find_rank(keys: &IndexSet<Key>, key: &Key) -> Option<usize>
 /// Makes room for one key more, and its parts. A refusal leaves the keys and their entries as before.
 pub fn reserve_key(
     alloc: Global,
-    params: &Params,
     keys: &mut IndexSet<Key>,
     kept: &mut Vec<Kept>,
     next: &mut Option<Kept>,
 ) -> Result<(), AllocError>
-    requires params { InRange params.now }
-    requires next { IfSome next.old (IsReady params.now) }
     ensures keys { keys.new.keys ≡ keys.old.keys }
     ensures kept { kept.new.items ≡ kept.old.items }
-    ensures next { IfSome next.new (IsReady params.now) }
+    ensures next { (p : Params) → IfSome next.old (IsReady p) → IfSome next.new (IsReady p) }
     ensures spare { OnOk result (0 < spare keys.new) }
     ensures room { OnOk result (vec_len kept.new < vec_capacity kept.new) }
     ensures there { OnOk result (is_some next.new ≡ true) }
@@ -43,7 +40,7 @@ pub fn reserve_key(
     keys.reserve(1)?;
     kept.reserve(1)?;
     if next.is_none() {
-        *next = Some(Kept::absent(alloc, params)?);
+        *next = Some(Kept::absent(alloc)?);
     }
     Ok(())
 }

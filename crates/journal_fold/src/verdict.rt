@@ -1,10 +1,10 @@
 //! What is known of a line's reply before its acts.
-ghost use Rattle.std.specs.Prelude.{◌≡◌, ◌<◌, List, ◌^◌, true, is_some, Some};
+ghost use Rattle.std.specs.Prelude.{◌≡◌, ◌<◌, ◌≤◌, List, ◌^◌, length, true, is_some, Some};
 ghost use Rattle.nb_base.specs.declared.line.Line.{Line};
 ghost use Rattle.nb_base.specs.declared.params.Params.{Params};
 ghost use Rattle.nb_base.specs.declared.line.Reply.TheVariants.{Counted};
 ghost use Rattle.nb_journal.specs.Accounts.{acts_at};
-ghost use Rattle.nb_journal.specs.Evaluated.{effect_named};
+ghost use Rattle.nb_journal.specs.Steps.{effect_named};
 ghost use Rattle.nb_journal.specs.Fold as rules;
 ghost use Rattle.nb_journal.specs.Keys as keys_of;
 ghost use Rattle.journal_fold.specs.Verdicts as verdicts;
@@ -40,6 +40,7 @@ pub fn counted(count: usize) -> Verdict
 
 /// The reply, once the acts of a line that names a key are known.
 pub fn reply_by(verdict: Verdict, line: &Line, acts: &[Act]) -> Option<Reply>
+    requires { length acts.now ≤ 66 }
     ensures { (p : Params) (past : List Line) → verdicts.IsVerdict p past line.now verdict → (is_some (keys_of.key_of line.now.op) ≡ true → acts.now ≡ acts_at p past line.now) → result ≡ rules.reply_of p past line.now }
 {
     match verdict {

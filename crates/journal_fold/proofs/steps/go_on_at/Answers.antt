@@ -1,9 +1,9 @@
 use Rattle.std.proofs.Common.{map, set, sym, ap, ◌∙◌, arith}
 use Rattle.std.proofs.lemmas.List.{map-set}
 use Rattle.nud_machine.specs.State.{State, Stepped}
-use Rattle.nb_journal.specs.Evaluated.{IsKept, state_in}
+use Rattle.nb_journal.specs.Steps.{IsKept, state_in}
 use Rattle.nb_journal.specs.Fold.{change, state_of}
-use Rattle.nb_journal.proofs.Evaluates.{timers_due}
+use Rattle.nb_journal.proofs.Meets.{timers_due}
 use Rattle.nb_journal.proofs.Folds.{state_of-snoc}
 use Rattle.journal_fold.proofs.Places.{each_at, stood, present_before, present_after, present_within}
 use Rattle.journal_fold.proofs.steps.go_on_at.Goals as goal

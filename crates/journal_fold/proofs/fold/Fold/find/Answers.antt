@@ -1,4 +1,4 @@
-use Rattle.nb_journal.specs.Evaluated.{IsKept}
+use Rattle.nb_journal.specs.Steps.{IsKept}
 use Rattle.journal_fold.proofs.Places.{each_at}
 use Rattle.journal_fold.proofs.Whole.{found}
 use Rattle.journal_fold.proofs.fold.Fold.find.Goals as goal

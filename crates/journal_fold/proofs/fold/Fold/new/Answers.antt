@@ -11,5 +11,6 @@ invariant_of-result c = record {
   states = rw (c.new-3.ensures.items, c.new.ensures.items, known_keys-nil) refl;
   kept = rw c.new-3.ensures.items tt;
   present = sym (ap (present_count c.args.params.now) c.new.ensures.items ∙ none_present c.args.params.now);
-  next = (c.in_ok-next.ensures.kept, c.in_ok-next.ensures.absent);
+  blank = (c.in_ok-blank.ensures.kept c.args.params.now, c.in_ok-blank.ensures.absent);
+  next = (c.in_ok-next.ensures.kept c.args.params.now, c.in_ok-next.ensures.absent);
 }

@@ -6,17 +6,21 @@ use Rattle.journal_fold.specs.Kept.{AreKept}
 use Rattle.journal_fold.proofs.Whole.{counts, whole, same_keys}
 use Rattle.journal_fold.proofs.fold.Fold.step_each.Goals as goal
 
+pub go_on_each-requires-clause-keys : goal.go_on_each-requires-clause-keys
+go_on_each-requires-clause-keys g c =
+    c.as_slice.ensures.keys ∙ c.self.invariant.keys ∙ ap known_keys (sym c.deref.ensures.value) ∙ sym (same_keys c.deref.result.now c.args.line.now c.requires.names)
+
 pub go_on_each-requires-clause-present : goal.go_on_each-requires-clause-present
-go_on_each-requires-clause-present c = counts c.self.inside c.self.invariant
+go_on_each-requires-clause-present g c = counts c.self.inside c.self.invariant
 
 pub invariant_of-self : goal.invariant_of-self
-invariant_of-self c =
+invariant_of-self g c =
     let f = c.self.inside in
     let line = c.args.line.now in
     let behind = c.deref.result.now ++ line ∷ [] in
     whole _ behind
     (c.push_line.ensures.lines ∙ ap (λ (lines : List Line). lines ++ line ∷ []) (sym c.deref.ensures.value))
-    c.self.invariant.params c.self.invariant.next
+    c.self.invariant.params c.self.invariant.blank c.self.invariant.next
     (c.self.invariant.keys ∙ ap known_keys (sym c.deref.ensures.value) ∙ sym (same_keys c.deref.result.now line c.requires.names))
     (subst (λ (keys : List Key). AreKept f.params behind keys c.go_on_each.new.kept.items) c.as_slice.ensures.keys c.go_on_each.ensures.kept)
     c.go_on_each.ensures.present

@@ -12,6 +12,6 @@ invariant_of-self c =
     let line = c.args.line.now in
     whole _ (c.deref-2.result.now ++ line ∷ [])
     (c.push_line.ensures.lines ∙ ap (λ (lines : List Line). lines ++ line ∷ []) (sym c.deref-2.ensures.value))
-    c.self.invariant.params c.make_known.ensures.next
+    c.self.invariant.params c.self.invariant.blank c.make_known.ensures.next
     (c.make_known.ensures.keys ∙ ap (λ (lines : List Line). known_keys (lines ++ line ∷ [])) (c.deref.ensures.value ∙ sym c.deref-2.ensures.value))
     c.go_on_named.ensures.kept c.go_on_named.ensures.present

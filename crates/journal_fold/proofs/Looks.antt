@@ -11,7 +11,7 @@ use Rattle.nb_journal.specs.declared.kept.Kept.{Kept}
 use Rattle.nb_journal.specs.Keys.{key_of}
 use Rattle.nb_journal.specs.Fold.{effect, meet, change, state_of, acts_of, known_keys}
 use Rattle.nb_journal.specs.Accounts.{acts_at}
-use Rattle.nb_journal.specs.Evaluated.{concerns}
+use Rattle.nb_journal.specs.Steps.{concerns}
 use Rattle.nb_journal.proofs.Folds.{state_of-snoc}
 use Rattle.nb_journal.proofs.Changed.{change_met}
 use Rattle.journal_fold.specs.Kept.{AreKept}
