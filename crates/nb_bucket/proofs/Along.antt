@@ -1,5 +1,6 @@
 -- Journals that go on by time, one after another.
-use Rattle.std.proofs.Common.{◌≡◌, ℕ, ◌≤◌, List, [], ◌∷◌, ◌++◌, refl, sym, ◌∙◌, ap, subst, arith, append_assoc, append-nil}
+use Rattle.std.proofs.Common.{◌≡◌, ℕ, ◌≤◌, List, [], ◌∷◌, ◌++◌, refl, sym, ◌∙◌, ap, subst, arith, append_assoc, append-nil, Result, Ok, Err}
+use Rattle.std.specs.Prelude.{OnOk, OnErr}
 use Rattle.std.proofs.lemmas.List.Folds.{list_all-append}
 use Rattle.nb_base.specs.declared.params.Params.{Params}
 use Rattle.nb_base.specs.declared.line.Line.{Line}
@@ -22,11 +23,23 @@ clock_behind-append : (clock : ℕ) (xs ys : List Line) → clock_behind clock (
 clock_behind-append clock xs [] = ap (clock_behind clock) (append-nil xs)
 clock_behind-append clock xs (y ∷ ys) = behind_some clock xs ys y
 
+-- ---- going on
+
+pub goes_on-lines : (old new : Journal) (g : GoesOn old new) → new.lines ≡ old.lines ++ g.more
+goes_on-lines old new g = ap (λ (j : Journal). j.lines) g.new_is
+
+pub goes_on-params : (old new : Journal) → GoesOn old new → new.params ≡ old.params
+goes_on-params old new g = ap (λ (j : Journal). j.params) g.new_is
+
+-- the clock may be set
+pub goes_on-clock : (old new : Journal) (clock : ℕ) → GoesOn old new → GoesOn old (record new { clock = clock })
+goes_on-clock old new clock g = record { more = g.more; by_time = g.by_time; new_is = ap (λ (j : Journal). (let set : Journal = record j { clock = clock } in set)) g.new_is }
+
 -- ---- going along
 
 pub along-same : (journal : Journal) (until : ℕ) → GoesAlong journal journal until
 along-same journal until = record {
-  goes_on = record { more = []; lines = sym (append-nil journal.lines); by_time = refl; params = refl; limit = refl };
+  goes_on = record { more = []; by_time = refl; new_is = ap (λ (xs : List Line). (let same : Journal = record journal { lines = xs } in same)) (sym (append-nil journal.lines)) };
   clock = refl;
   within = omega arith;
 }
@@ -35,10 +48,10 @@ pub along-then : (old mid new : Journal) (until to : ℕ) → until ≤ to → G
 along-then old mid new until to le a b = record {
   goes_on = record {
     more = a.goes_on.more ++ b.goes_on.more;
-    lines = b.goes_on.lines ∙ ap (λ (xs : List Line). xs ++ b.goes_on.more) a.goes_on.lines ∙ append_assoc old.lines a.goes_on.more b.goes_on.more;
     by_time = list_all-append (λ (line : Line). is_by_time line.op) a.goes_on.more b.goes_on.more ∙ rw (a.goes_on.by_time, b.goes_on.by_time) refl;
-    params = b.goes_on.params ∙ a.goes_on.params;
-    limit = b.goes_on.limit ∙ a.goes_on.limit;
+    new_is = b.goes_on.new_is
+        ∙ ap (λ (j : Journal). (let on : Journal = record j { lines = j.lines ++ b.goes_on.more; clock = new.clock } in on)) a.goes_on.new_is
+        ∙ ap (λ (xs : List Line). (let on : Journal = record old { lines = xs; clock = new.clock } in on)) (append_assoc old.lines a.goes_on.more b.goes_on.more);
   };
   clock = b.clock ∙ ap (λ (c : ℕ). clock_behind c b.goes_on.more) a.clock ∙ sym (clock_behind-append old.clock a.goes_on.more b.goes_on.more);
   within = let x = a.within in let y = b.within in omega (arith, x, y, le);
@@ -49,7 +62,7 @@ along-further old new until to le a = along-then old new new until to le a (alon
 
 pub along-one : (old new : Journal) (until : ℕ) → GoesOneOn old new until → GoesAlong old new until
 along-one old new until one = subst (λ (j : Journal). GoesAlong old j until) (sym one.grown) (record {
-  goes_on = record { more = one.line ∷ []; lines = refl; by_time = rw one.by_time refl; params = refl; limit = refl };
+  goes_on = record { more = one.line ∷ []; by_time = rw one.by_time refl; new_is = refl };
   clock = refl;
   within = let due = one.due in omega (arith, due);
 })
@@ -57,11 +70,20 @@ along-one old new until one = subst (λ (j : Journal). GoesAlong old j until) (s
 pub along-one_more : (old mid new : Journal) (until : ℕ) → GoesAlong old mid until → GoesOneOn mid new until → GoesAlong old new until
 along-one_more old mid new until a one = along-then old mid new until until (omega arith) a (along-one mid new until one)
 
+-- a call that writes one line more or leaves the journal as before
+pub along-either : {A : Type 0} (result : Result A BucketFail) (old mid new : Journal) (until : ℕ) → GoesAlong old mid until → OnOk result (GoesOneOn mid new until) → OnErr result (new ≡ mid) → GoesAlong old new until
+along-either (Ok x) old mid new until a one same = along-one_more old mid new until a one
+along-either (Err fail) old mid new until a one same = subst (λ (j : Journal). GoesAlong old j until) (sym same) a
+
+pub on_ok-then : {A : Type 0} {P Q : Type 0} (result : Result A BucketFail) → (P → Q) → OnOk result P → OnOk result Q
+on_ok-then (Ok x) f h = f h
+on_ok-then (Err fail) f h = tt
+
 -- ---- causes
 
 comes-further : (p : Params) (lines next : List Line) (until to : ℕ) → until ≤ to → ComesNext p lines until next → ComesNext p lines to next
 comes-further p lines next until to le (Timer key at due is broken) = Timer key at (omega (arith, due, le)) is broken
-comes-further p lines next until to le (Sweep u due is lawful) = Sweep u (omega (arith, due, le)) is lawful
+comes-further p lines next until to le (Sweep u seen due is lawful) = Sweep u seen (omega (arith, due, le)) is lawful
 
 -- what comes next up to a moment comes next up to a later one
 pub cause-further : (journal : Journal) (until to : ℕ) (fail : BucketFail) → until ≤ to → HasCause journal (ComesNext journal.params journal.lines until) fail → HasCause journal (ComesNext journal.params journal.lines to) fail
@@ -76,9 +98,10 @@ cause-further journal until to Memory le cause = tt
 
 -- ---- at the end of a call
 
--- the clock may be set
-pub goes_on-clock : (old new : Journal) (until clock : ℕ) → GoesAlong old new until → GoesOn old (record new { clock = clock })
-goes_on-clock old new until clock a = record { more = a.goes_on.more; lines = a.goes_on.lines; by_time = a.goes_on.by_time; params = a.goes_on.params; limit = a.goes_on.limit }
-
-pub along-refuses : (old new : Journal) (to : ℕ) (fail : BucketFail) → GoesAlong old new to → HasCause new (ComesNext new.params new.lines to) fail → Refuses old new (ComesNext old.params new.lines to) fail
-along-refuses old new to fail a cause = record { goes_on = a.goes_on; clock = a.clock; cause = subst (λ (p : Params). HasCause new (ComesNext p new.lines to) fail) a.goes_on.params cause }
+pub along-refuses : (old new : Journal) (to : ℕ) (fail : BucketFail) → old.clock ≤ to → GoesAlong old new to → HasCause new (ComesNext new.params new.lines to) fail → Refuses old new to (ComesNext old.params new.lines to) fail
+along-refuses old new to fail le a cause = record {
+  goes_on = a.goes_on;
+  clock = a.clock;
+  within = let within = a.within in omega (arith, within, le);
+  cause = subst (λ (p : Params). HasCause new (ComesNext p new.lines to) fail) (goes_on-params old new a.goes_on) cause;
+}

@@ -4,7 +4,12 @@ use Rattle.std.proofs.lemmas.List.{take_more, length-map, length-take-le, map-ap
 use Rattle.std.proofs.lemmas.Bool.Decides.{nat_tests}
 use Rattle.nb_journal.specs.declared.kept.Kept.{Kept}
 use Rattle.nb_bucket.specs.declared.soonest.Due.{Due}
-use Rattle.nb_bucket.specs.Dues.{dues_of, IsLeastDue, HasNoDue, IsBest, better_of}
+use Rattle.nb_bucket.specs.Dues.{dues_of, IsLeastDue, HasNoDue, better_of}
+
+-- the best so far is the first of the least
+abbrev pub IsBest : List (Option ℕ) → Option Due → Type 0
+IsBest dues None = HasNoDue dues
+IsBest dues (Some best) = IsLeastDue dues best.rank best.at
 
 get_last : {A : Type 0} (xs : List A) (y z : A) (k : ℕ) → slice_get (xs ++ y ∷ []) k ≡ Some z → ((k < length xs) × (slice_get xs k ≡ Some z)) ⊎ ((k ≡ length xs) × (y ≡ z))
 get_last [] y z zero e = let same : y ≡ z = cc in inr (refl, same)

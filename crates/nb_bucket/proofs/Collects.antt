@@ -9,11 +9,9 @@ use Rattle.nb_base.specs.declared.params.Params.{Params}
 use Rattle.nb_base.specs.declared.line.Line.{Line}
 use Rattle.nud_machine.specs.declared.event.Event.TheVariants as event
 use Rattle.nud_machine.specs.State.{State}
-use Rattle.nb_journal.specs.Keys.{is_key}
-use Rattle.nb_journal.specs.Fold.{if_so, meet, state_of, is_present}
-use Rattle.nb_journal.specs.Lawful.{base_of, making, last_pass, making_order, collected, collect_line, collects}
-use Rattle.nb_journal.specs.Evaluated.{has_pass, taken_by_pass, asked_of_pass}
-use Rattle.nb_journal.proofs.Changes.{change-other}
+use Rattle.nb_journal.specs.Fold.{seen_of, if_so, meet, state_of, is_present}
+use Rattle.nb_journal.specs.Lawful.{base_of, making, last_pass, making_order, is_collectable, collected, collect_line}
+use Rattle.nb_journal.specs.Lawful.{has_pass, taken_by_pass, asked_of_pass}
 use Rattle.nb_journal.proofs.Lines.{by_last}
 use Rattle.nb_journal.proofs.Folds.{state_of-snoc, making_order-nil, making_order-snoc, filter_within}
 use Rattle.nb_journal.proofs.Dues.{change-either}
@@ -22,10 +20,6 @@ use Rattle.nb_bucket.specs.Entering.{victims_of}
 use Rattle.nb_bucket.proofs.Makes.{filter_all, order-removed, pass-same}
 
 -- ---- what collects leave
-
--- another key's state stays
-pub state-apart : (p : Params) (lines : List Line) (at : ℕ) (named key : Key) → is_key named key ≡ false → state_of p (lines ++ collect_line at named ∷ []) key ≡ state_of p lines key
-state-apart p lines at named key off = state_of-snoc p lines (collect_line at named) key ∙ rw (change-other p (collect_line at named) named key (state_of p lines key) refl off) refl
 
 remove_before : (p : Params) (l : Line) (s : State) (t : Bool) → s.entry.present ≡ t → (meet p l s (if_so t event.Remove)).state.entry.present ≡ true → s.entry.present ≡ true
 remove_before p l s true e h = e
@@ -90,7 +84,7 @@ order-within p = by_last (λ (xs : List Line). length (making_order p xs) ≤ le
 
 -- ---- what a pass takes
 
-pub collected-few : (limit present : ℕ) (takes : Key → Bool) (keys : List Key) → length (collected limit present takes keys) ≤ length keys
+collected-few : (limit present : ℕ) (takes : Key → Bool) (keys : List Key) → length (collected limit present takes keys) ≤ length keys
 collected-few limit present takes [] = omega arith
 collected-few limit present takes (k ∷ ks) = by_test (nat_lt present limit) (takes k) (collected-few limit (present - 1) takes ks) (collected-few limit present takes ks) where
   by_test : (t u : Bool) → length (collected limit (present - 1) takes ks) ≤ length ks → length (collected limit present takes ks) ≤ length ks
@@ -99,16 +93,20 @@ collected-few limit present takes (k ∷ ks) = by_test (nat_lt present limit) (t
   by_test false true a b = omega (arith, a)
   by_test false false a b = omega (arith, b)
 
--- the collects are those of the keys that the pass takes
-pub collects-asked : (p : Params) (base : List Line) (l : Line) → collects p base l ≡ map (collect_line l.at) (asked_of_pass p base l)
-collects-asked p base l = by_test (has_pass p base l) (taken_by_pass p base l) where
-  by_test : (t : Bool) (keys : List Key) → (if t then map (collect_line l.at) keys else []) ≡ map (collect_line l.at) (if t then keys else [])
-  by_test true keys = refl
-  by_test false keys = refl
+-- no more keys than the order has, which are no more than the lines
+pub asked-few : (p : Params) (base : List Line) (l : Line) → length (asked_of_pass p base l) ≤ length base
+asked-few p base l = by_test (has_pass p base l) where
+  by_test : (t : Bool) → length (if t then taken_by_pass p base l else []) ≤ length base
+  by_test true =
+      let few = collected-few p.gc_thresh2 (seen_of l) (λ (key : Key). is_collectable l.at (state_of p base key)) (making_order p base) in
+      let within = order-within p base in
+      omega (arith, few, within)
+  by_test false = omega arith
 
 -- the victims of the order of making are those that a due pass takes
-pub victims-asked : (p : Params) (base : List Line) (l : Line) (order : List Key) → has_pass p base l ≡ true → order ≡ making_order p base → victims_of p base l.at order ≡ asked_of_pass p base l
-victims-asked p base l order on e = ap (victims_of p base l.at) e ∙ ap (λ (t : Bool). if t then taken_by_pass p base l else []) (sym on)
+pub victims-asked : (p : Params) (base : List Line) (l : Line) (seen : ℕ) (order : List Key) → has_pass p base l ≡ true → seen ≡ seen_of l → order ≡ making_order p base → victims_of p base seen l.at order ≡ asked_of_pass p base l
+victims-asked p base l seen order on same e =
+    ap (λ (n : ℕ). victims_of p base n l.at order) same ∙ ap (victims_of p base (seen_of l) l.at) e ∙ ap (λ (t : Bool). if t then taken_by_pass p base l else []) (sym on)
 
 pub none-asked : (p : Params) (base : List Line) (l : Line) → has_pass p base l ≡ false → asked_of_pass p base l ≡ []
 none-asked p base l off = ap (λ (t : Bool). if t then taken_by_pass p base l else []) off

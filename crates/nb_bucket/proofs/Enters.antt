@@ -1,6 +1,6 @@
--- What a bucket keeps, as an operation is entered.
-use Rattle.std.proofs.Common.{◌≡◌, ℕ, ◌+◌, ◌<◌, ◌≤◌, Bool, true, false, ◌&&◌, is_some, if◌then◌else◌, List, [], ◌∷◌, ◌++◌, length, Option, Some, refl, sym, ◌∙◌, ap, subst, arith, append_assoc, append-nil}
-use Rattle.std.specs.Prelude.{map}
+-- What a bucket's fields are, as an operation is entered.
+use Rattle.std.proofs.Common.{◌≡◌, ℕ, ◌+◌, ◌<◌, ◌≤◌, Bool, true, false, ◌&&◌, is_some, if◌then◌else◌, List, [], ◌∷◌, ◌++◌, length, Option, Some, None, refl, sym, ◌∙◌, ap, subst, arith, append_assoc, append-nil}
+use Rattle.std.specs.Prelude.{map, IfSome}
 use Rattle.std.proofs.lemmas.List.{length-append, length-map}
 use Rattle.nb_base.specs.declared.key.Key.{Key}
 use Rattle.nb_base.specs.declared.time.OpId.{OpId}
@@ -11,41 +11,57 @@ use Rattle.nb_base.specs.declared.line.Reply.{Reply}
 use Rattle.nb_base.specs.Params.{InRange}
 use Rattle.nud_machine.specs.Asked.{greatest}
 use Rattle.nb_journal.specs.Keys.{is_own}
-use Rattle.nb_journal.specs.Fold.{present_count, reply_of}
-use Rattle.nb_journal.specs.Lawful.{before_sweep, base_of, making, is_pass_due, last_pass, making_order, collect_line, collects, full_of, IsLawful}
-use Rattle.nb_journal.specs.Evaluated.{has_pass, asked_of_pass}
-use Rattle.nb_journal.specs.Laws as laws
+use Rattle.nb_journal.specs.Fold.{seen_of, present_count}
+use Rattle.nb_journal.specs.Lawful.{before_sweep, base_of, making, HasSeen, is_pass_due, last_pass, making_order, collect_line, collects, has_pass, asked_of_pass, full_of, IsLawful}
 use Rattle.nb_journal.proofs.Folds.{last_pass-snoc}
 use Rattle.nb_journal.proofs.Fits.{before_early}
 use Rattle.nb_journal.proofs.Passes.{goes_on}
-use Rattle.nb_bucket.specs.Bucket.{Journal, entered_line, brought, Lawful, HasNoRoom, EntersNext, Operation}
-use Rattle.nb_bucket.specs.Keeps.{IsNextSweep, IsFirstBehind, Keeps}
-use Rattle.nb_bucket.specs.Entering.{bare_line, full_line, brought_by, IsEntered}
-use Rattle.nb_bucket.proofs.NextSweep.{before_one_more, nothing_due-earlier}
-use Rattle.nb_bucket.proofs.Collects.{pass-collects, collects-asked}
-use Rattle.nb_bucket.proofs.Entered.{making-full, collects-full, full_of-full, base_of-behind}
+use Rattle.nb_bucket.specs.Bucket.{Journal, operation_line, full_line, brought, IsReplyTo, Lawful, HasNoRoom, IsTotal, EntersNext, Operation}
+use Rattle.nb_bucket.specs.Keeps.{IsNextSweep, FollowsJournal}
+use Rattle.nb_bucket.specs.Counting.{CensusShown, IsCensusOf, LooksFor}
+use Rattle.nb_bucket.specs.Entering.{IsEntered}
+use Rattle.nb_bucket.specs.Planned.{planned_line, IsPlanned}
+use Rattle.nb_bucket.specs.declared.passing.Planned.{Planned}
+use Rattle.nb_bucket.proofs.NextSweep.{before_one_more, lawful-ahead}
+use Rattle.nb_bucket.proofs.Collects.{pass-collects}
+use Rattle.nb_bucket.proofs.Entered.{making-full, collects-full, full_of-full, has_seen, seen-full, base_of-behind}
 
 -- ---- the lines
 
-pub brought-is : (p : Params) (lines : List Line) (at : ℕ) (id : OpId) (o : Op) → brought_by p lines (bare_line at id o) ≡ brought p lines at id o
-brought-is p lines at id o =
-    let line = entered_line p lines at id o in
-    ap (λ (xs : List Line). xs ++ line ∷ []) (sym (collects-full p lines (bare_line at id o) line.full))
-
-pub length-brought : (p : Params) (lines : List Line) (l : Line) → length (brought_by p lines l) ≡ length (asked_of_pass p lines l) + 1
+pub length-brought : (p : Params) (lines : List Line) (l : Line) → length (brought p lines l) ≡ length (asked_of_pass p lines l) + 1
 length-brought p lines l =
     length-append (collects p lines l) (full_line p lines l ∷ [])
-    ∙ ap (λ (n : ℕ). n + 1) (ap length (collects-asked p lines l) ∙ length-map (asked_of_pass p lines l) (collect_line l.at))
+    ∙ ap (λ (n : ℕ). n + 1) (length-map (asked_of_pass p lines l) (collect_line l.at))
 
 -- a lawful journal goes on by them
-pub brought-lawful : (p : Params) (lines : List Line) (l : Line) → InRange p → IsLawful p lines l.at → is_own l.op ≡ true → is_some l.id ≡ true → IsLawful p (lines ++ brought_by p lines l) l.at
-brought-lawful p lines l r lawful own id =
+pub brought-lawful : (p : Params) (lines : List Line) (l : Line) → InRange p → IsLawful p lines l.at → is_own l.op ≡ true → is_some l.id ≡ true → HasSeen p lines l → IsLawful p (lines ++ brought p lines l) l.at
+brought-lawful p lines l r lawful own id seen =
     let line = full_line p lines l in
     let same = collects-full p lines l line.full in
     let full : line.full ≡ full_of p (lines ++ collects p lines line) line =
     sym (full_of-full p (lines ++ collects p lines l) l line.full) ∙ ap (λ (xs : List Line). full_of p (lines ++ xs) line) (sym same) in
     subst (λ (xs : List Line). IsLawful p xs l.at) (append_assoc lines (collects p lines l) (line ∷ []))
-    (subst (λ (xs : List Line). IsLawful p ((lines ++ xs) ++ line ∷ []) l.at) same (goes_on p lines line r lawful own id full))
+    (subst (λ (xs : List Line). IsLawful p ((lines ++ xs) ++ line ∷ []) l.at) same (goes_on p lines line r lawful own id (seen-full p lines l line.full seen) full))
+
+-- ---- what the line saw
+
+looks-least : (n : ℕ) (s t : CensusShown) (seen : Option ℕ) → s.share ≡ n → LooksFor s t seen → IfSome seen (λ v. n ≤ v)
+looks-least n s t None e l = tt
+looks-least n s t (Some v) e l = subst (λ (m : ℕ). m ≤ v) e l.least
+
+-- and the sum, where the others' number is told
+pub looks-total : (p : Params) (lines : List Line) (s t : CensusShown) (seen : Option ℕ) → IsCensusOf p lines s → LooksFor s t seen → IsTotal p lines s.others seen
+looks-total p lines s t None is l = none s.others where
+  none : (others : Option ℕ) → IsTotal p lines others None
+  none None = tt
+  none (Some n) = tt
+looks-total p lines s t (Some v) is l = subst (λ (share : ℕ). IfSome s.others (λ n. v ≡ share + n)) is.share l.told
+
+-- a planned line sees at least what is present, exactly where it is to make an entry
+pub planned-saw : (p : Params) (lines : List Line) (bare : Line) (plan : Planned) (victims : List Key) (s t : CensusShown) → is_own bare.op ≡ true → IsPlanned p lines bare plan victims → IsCensusOf p lines s → LooksFor s t plan.seen
+    → HasSeen p lines (planned_line bare plan)
+planned-saw p lines bare plan victims s t own planned is looks =
+    has_seen p lines (planned_line bare plan) own (planned.there ∙ ap (λ (made : Option Key). is_some made) planned.made_is) (looks-least (present_count p lines) s t plan.seen is.share looks)
 
 -- ---- the next sweep
 
@@ -55,53 +71,48 @@ collects-before next at lines (k ∷ ks) lt e =
     subst (λ (xs : List Line). xs ≡ before_sweep next xs) (append_assoc lines (collect_line at k ∷ []) (map (collect_line at) ks))
     (collects-before next at (lines ++ collect_line at k ∷ []) ks lt (before_one_more next lines (collect_line at k) e (before_early next (collect_line at k) lt)))
 
-brought-before : (p : Params) (lines : List Line) (l : Line) (next : ℕ) → l.at < next → lines ≡ before_sweep next lines → lines ++ brought_by p lines l ≡ before_sweep next (lines ++ brought_by p lines l)
+brought-before : (p : Params) (lines : List Line) (l : Line) (next : ℕ) → l.at < next → lines ≡ before_sweep next lines → lines ++ brought p lines l ≡ before_sweep next (lines ++ brought p lines l)
 brought-before p lines l next lt e =
     let line = full_line p lines l in
     subst (λ (xs : List Line). xs ≡ before_sweep next xs) (append_assoc lines (collects p lines l) (line ∷ []))
-    (before_one_more next (lines ++ collects p lines l) line
-    (subst (λ (xs : List Line). lines ++ xs ≡ before_sweep next (lines ++ xs)) (sym (collects-asked p lines l)) (collects-before next l.at lines (asked_of_pass p lines l) lt e))
-    (before_early next line lt))
+    (before_one_more next (lines ++ collects p lines l) line (collects-before next l.at lines (asked_of_pass p lines l) lt e) (before_early next line lt))
 
-next-brought : (p : Params) (lines : List Line) (l : Line) (next : ℕ) → IsNextSweep p lines next → IsFirstBehind p l.at next → l.at < next → IsLawful p (lines ++ brought_by p lines l) l.at → IsNextSweep p (lines ++ brought_by p lines l) next
-next-brought p lines l next n first lt lawful = record {
-  from = l.at + 1;
-  stands = laws.Lawful l.at lawful;
-  none = λ u is ge before crowded. let le = first u is before in omega (arith, le, ge);
+pub next-brought : (p : Params) (lines : List Line) (l : Line) (clock next : ℕ) → IsNextSweep p lines clock next → clock ≤ l.at → l.at < next → IsLawful p (lines ++ brought p lines l) l.at → IsNextSweep p (lines ++ brought p lines l) l.at next
+next-brought p lines l clock next n le lt lawful = record {
   moment = n.moment;
   before = brought-before p lines l next lt n.before;
-  passed = λ u is before. nothing_due-earlier p (lines ++ brought_by p lines l) u l.at (first u is before) lawful.none_left;
+  swept = λ u is early. lawful.sweeps u is (let past = n.passed u is early in omega (arith, past, le));
+  passed = λ u is early. let past = n.passed u is early in omega (arith, past, le);
 }
 
 -- ---- the last forced pass
 
-pub pass-brought : (p : Params) (lines : List Line) (l : Line) → base_of lines ≡ lines → last_pass p (lines ++ brought_by p lines l) ≡ (if has_pass p lines l then l.at else last_pass p lines)
+pub pass-brought : (p : Params) (lines : List Line) (l : Line) → base_of lines ≡ lines → last_pass p (lines ++ brought p lines l) ≡ (if has_pass p lines l then l.at else last_pass p lines)
 pass-brought p lines l bare =
     let line = full_line p lines l in
     let past = lines ++ collects p lines l in
-    let before : last_pass p past ≡ last_pass p lines = ap (λ (xs : List Line). last_pass p (lines ++ xs)) (collects-asked p lines l) ∙ pass-collects p lines l.at (asked_of_pass p lines l) in
+    let before : last_pass p past ≡ last_pass p lines = pass-collects p lines l.at (asked_of_pass p lines l) in
     ap (last_pass p) (sym (append_assoc lines (collects p lines l) (line ∷ [])))
     ∙ last_pass-snoc p past line
-    ∙ ap (λ (base : List Line). if is_some (making p base line) && is_pass_due p (present_count p base) (last_pass p past) l.at then l.at else last_pass p past) (base_of-behind p lines l bare)
-    ∙ ap (λ (last : ℕ). if is_some (making p lines line) && is_pass_due p (present_count p lines) last l.at then l.at else last) before
-    ∙ ap (λ (made : Option Key). if is_some made && is_pass_due p (present_count p lines) (last_pass p lines) l.at then l.at else last_pass p lines) (making-full p lines l line.full)
+    ∙ ap (λ (base : List Line). if is_some (making p base line) && is_pass_due p (seen_of l) (last_pass p past) l.at then l.at else last_pass p past) (base_of-behind p lines l bare)
+    ∙ ap (λ (last : ℕ). if is_some (making p lines line) && is_pass_due p (seen_of l) last l.at then l.at else last) before
+    ∙ ap (λ (made : Option Key). if is_some made && is_pass_due p (seen_of l) (last_pass p lines) l.at then l.at else last_pass p lines) (making-full p lines l line.full)
 
--- ---- what the bucket keeps
+-- ---- what the bucket's fields are
 
-pub keeps-brought : (p : Params) (limit : ℕ) (lines : List Line) (clock was : ℕ) (order : List Key) (pass : ℕ) (next : ℕ) (l : Line) (after : List Key) (last : ℕ) → Keeps p limit lines clock was order pass → IsNextSweep p lines next
-    → IsFirstBehind p l.at next → l.at < next → l.at ≤ greatest → IsLawful p lines l.at → is_own l.op ≡ true → is_some l.id ≡ true
-    → length lines + (length (asked_of_pass p lines l) + 1) ≤ limit → after ≡ making_order p (lines ++ brought_by p lines l) → last ≡ (if has_pass p lines l then l.at else pass) → last ≤ greatest
-    → Keeps p limit (lines ++ brought_by p lines l) l.at next after last
-keeps-brought p limit lines clock was order pass next l after last k n first lt now lawful own id room made passed early =
-    let more = brought-lawful p lines l k.params lawful own id in
+pub follows-brought : (p : Params) (limit : ℕ) (lines : List Line) (clock next : ℕ) (order : List Key) (pass : ℕ) (l : Line) (after : List Key) (last : ℕ) → FollowsJournal p limit lines clock next order pass
+    → clock ≤ l.at → l.at ≤ greatest → IsLawful p lines l.at → is_own l.op ≡ true → is_some l.id ≡ true → HasSeen p lines l
+    → length lines + (length (asked_of_pass p lines l) + 1) ≤ limit → after ≡ making_order p (lines ++ brought p lines l) → last ≡ (if has_pass p lines l then l.at else pass) → last ≤ greatest
+    → FollowsJournal p limit (lines ++ brought p lines l) l.at next after last
+follows-brought p limit lines clock next order pass l after last k le now lawful own id seen room made passed early =
+    let more = brought-lawful p lines l k.params lawful own id seen in
     record {
       params = k.params;
-      few = let size = length-append lines (brought_by p lines l) in let some = length-brought p lines l in omega (arith, size, some, room);
+      few = let size = length-append lines (brought p lines l) in let some = length-brought p lines l in omega (arith, size, some, room);
       most = k.most;
       in_run = now;
       stands = Lawful more;
-      next = next-brought p lines l next n first lt more;
-      first = first;
+      next = next-brought p lines l clock next k.next le (lawful-ahead p lines clock next l.at k.next lawful) more;
       making = made;
       last = passed ∙ ap (λ (m : ℕ). if has_pass p lines l then l.at else m) k.last ∙ sym (pass-brought p lines l lawful.orderly.passes_only);
       early = early;
@@ -110,34 +121,35 @@ keeps-brought p limit lines clock was order pass next l after last k n first lt 
 -- ---- the answers
 
 -- an operation for whose lines there is no room comes next
-pub full-entered : (journal : Journal) (at : ℕ) (id : OpId) (o : Op) (has collects : ℕ) → InRange journal.params → IsLawful journal.params journal.lines at → is_own o ≡ true → has ≡ length journal.lines
-    → collects ≡ length (asked_of_pass journal.params journal.lines (bare_line at id o)) → journal.limit < has + (collects + 1) → HasNoRoom journal (EntersNext journal.params journal.lines at id o) has (collects + 1)
-full-entered journal at id o has collects r lawful own is count many =
-    let same = brought-is journal.params journal.lines at id o in
+pub full-entered : (journal : Journal) (at : ℕ) (id : OpId) (o : Op) (others seen : Option ℕ) (has many : ℕ) → IsTotal journal.params journal.lines others seen → InRange journal.params → IsLawful journal.params journal.lines at → is_own o ≡ true
+    → HasSeen journal.params journal.lines (operation_line at id o seen) → has ≡ length journal.lines → many ≡ length (asked_of_pass journal.params journal.lines (operation_line at id o seen))
+    → journal.limit < has + (many + 1) → HasNoRoom journal (EntersNext journal.params journal.lines at id o others) has (many + 1)
+full-entered journal at id o others seen has many total r lawful own saw is count too =
+    let line = operation_line at id o seen in
     record {
       has_is = is;
-      next = brought journal.params journal.lines at id o;
-      comes = Operation lawful (subst (λ (xs : List Line). IsLawful journal.params (journal.lines ++ xs) at) same (brought-lawful journal.params journal.lines (bare_line at id o) r lawful own refl));
-      needs_is = ap (λ (n : ℕ). n + 1) count ∙ sym (length-brought journal.params journal.lines (bare_line at id o)) ∙ ap length same;
-      too_many = many;
+      next = brought journal.params journal.lines line;
+      comes = Operation seen total lawful (brought-lawful journal.params journal.lines line r lawful own refl saw);
+      needs_is = ap (λ (n : ℕ). n + 1) count ∙ sym (length-brought journal.params journal.lines line);
+      too_many = too;
     }
 
-pub is_entered : (old : Journal) (p : Params) (lines : List Line) (at : ℕ) (id : OpId) (o : Op) (has count : ℕ) (reply : Reply) → InRange old.params → IsLawful old.params old.lines at → is_own o ≡ true
-    → p ≡ old.params → lines ≡ old.lines ++ brought_by old.params old.lines (bare_line at id o) → has ≡ length old.lines → count ≡ length (asked_of_pass old.params old.lines (bare_line at id o))
-    → reply_of old.params (old.lines ++ collects old.params old.lines (bare_line at id o)) (full_line old.params old.lines (bare_line at id o)) ≡ Some reply
+pub is_entered : (old : Journal) (p : Params) (lines : List Line) (at : ℕ) (id : OpId) (o : Op) (seen : Option ℕ) (has count : ℕ) (reply : Reply) → InRange old.params → IsLawful old.params old.lines at → is_own o ≡ true
+    → HasSeen old.params old.lines (operation_line at id o seen) → p ≡ old.params → lines ≡ old.lines ++ brought old.params old.lines (operation_line at id o seen) → has ≡ length old.lines
+    → count ≡ length (asked_of_pass old.params old.lines (operation_line at id o seen)) → IsReplyTo old.params old.lines (operation_line at id o seen) reply
     → IsEntered old (record { params = p; limit = old.limit; lines = lines; clock = at }) at id o (has + count) reply
-is_entered old p lines at id o has count reply r lawful own params grown is asked answer =
-    let line = entered_line old.params old.lines at id o in
-    let same = brought-is old.params old.lines at id o in
+is_entered old p lines at id o seen has count reply r lawful own saw params grown is asked answer =
+    let line = operation_line at id o seen in
     record {
       lawful_before = lawful;
-      new_is = ap (λ (x : Params × List Line). (let made : Journal = record { params = x.0; limit = old.limit; lines = x.1; clock = at } in made)) (λ i. (params i, (grown ∙ ap (λ (xs : List Line). old.lines ++ xs) same) i));
-      lawful = subst (λ (xs : List Line). IsLawful old.params xs at) (sym grown) (brought-lawful old.params old.lines (bare_line at id o) r lawful own refl);
+      seen = seen;
+      new_is = ap (λ (x : Params × List Line). (let made : Journal = record { params = x.0; limit = old.limit; lines = x.1; clock = at } in made)) (λ i. (params i, grown i));
+      lawful = subst (λ (xs : List Line). IsLawful old.params xs at) (sym grown) (brought-lawful old.params old.lines line r lawful own refl saw);
       place_is =
-          let size = ap length grown ∙ length-append old.lines (brought_by old.params old.lines (bare_line at id o)) in
-          let some = length-brought old.params old.lines (bare_line at id o) in
+          let size = ap (λ (xs : List Line). length xs) grown ∙ length-append old.lines (brought old.params old.lines line) in
+          let some = length-brought old.params old.lines line in
           omega (arith, size, some, is, asked);
-      reply_is = ap (λ (xs : List Line). reply_of old.params (old.lines ++ xs) line) (collects-full old.params old.lines (bare_line at id o) line.full) ∙ answer;
+      reply_is = answer;
     }
 
 pub later_of : (t : Bool) (at last : ℕ) → at ≤ greatest → last ≤ greatest → (if t then at else last) ≤ greatest

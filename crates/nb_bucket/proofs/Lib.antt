@@ -6,6 +6,7 @@ pub mod Keeping
 pub mod Along
 pub mod Collects
 pub mod Entered
-pub mod PartTaken
+pub mod Chosen
+pub mod CountsAlong
 pub mod Enters
 pub mod Calls

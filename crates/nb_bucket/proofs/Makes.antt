@@ -12,7 +12,7 @@ use Rattle.nud_machine.specs.Step.{step}
 use Rattle.nb_journal.specs.Keys.{is_key, key_of, is_own}
 use Rattle.nb_journal.specs.Fold.{Effect, Passes, Refuses, Brings, effect, meet, state_of, is_present}
 use Rattle.nb_journal.specs.Lawful.{base_of, made_by, making, last_pass, making_order}
-use Rattle.nb_journal.specs.Evaluated.{has_key}
+use Rattle.nb_journal.specs.Keys.{has_key}
 use Rattle.nb_journal.proofs.Changes.{is_key-same}
 use Rattle.nb_journal.proofs.Folds.{state_of-snoc, making_order-snoc, last_pass-snoc}
 use Rattle.nb_journal.proofs.Dues.{change-either}

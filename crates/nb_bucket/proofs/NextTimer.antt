@@ -12,7 +12,8 @@ use Rattle.nb_journal.specs.declared.kept.Kept.{Kept}
 use Rattle.nb_journal.specs.Keys.{is_key, place_among}
 use Rattle.nb_journal.specs.Fold.{state_of, known_keys}
 use Rattle.nb_journal.specs.Lawful.{due_of, NothingDue, IsNextDue}
-use Rattle.nb_journal.specs.Evaluated.{state_in, has_key}
+use Rattle.nb_journal.specs.Steps.{state_in}
+use Rattle.nb_journal.specs.Keys.{has_key}
 use Rattle.nb_journal.proofs.Changes.{is_key-same}
 use Rattle.nb_journal.proofs.Dues.{DuesFrom, nothing_due-from, nothing_overdue-from}
 use Rattle.nb_journal.proofs.Counts.{AreDistinct, key_cases, known_keys-distinct, state_of-unknown}

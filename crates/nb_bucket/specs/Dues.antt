@@ -27,11 +27,6 @@ better_of (Some best) rank (Some due) = if nat_lt due best.at then Some (record 
 better_of None rank (Some due) = Some (record { rank = rank; at = due })
 better_of best rank None = best
 
--- the best so far is the first of the least
-abbrev pub IsBest : List (Option ℕ) → Option Due → Type 0
-IsBest dues None = HasNoDue dues
-IsBest dues (Some best) = IsLeastDue dues best.rank best.at
-
 -- the line is that of the next timer
 pub record IsNextTimer (p : Params) (lines : List Line) (line : Line) : Type 0 where
   pub key : Key

@@ -1,9 +1,7 @@
 -- What a bucket's helpers promise one another on the way through a call. This project's own.
 use Rattle.std.specs.Prelude.{◌≡◌, ℕ, ◌<◌, ◌≤◌, true, [], ◌∷◌, ◌++◌, length, max}
 use Rattle.nb_base.specs.declared.line.Line.{Line}
-use Rattle.nb_journal.specs.Lawful.{NothingDue}
 use Rattle.nb_bucket.specs.Bucket.{Journal, is_by_time, GoesOn, clock_behind}
-use Rattle.nb_bucket.specs.Keeps.{IsNextSweep, IsFirstBehind}
 
 -- one line more, which comes by time up to the moment, and the clock at it
 pub record GoesOneOn (old new : Journal) (until : ℕ) : Type 0 where
@@ -18,10 +16,3 @@ pub record GoesAlong (old new : Journal) (until : ℕ) : Type 0 where
   pub goes_on : GoesOn old new
   pub clock : new.clock ≡ clock_behind old.clock goes_on.more
   pub within : new.clock ≤ max old.clock until
-
--- all that comes by time up to the moment stands, and all sweeps up to it were judged
-pub record IsReached (journal : Journal) (to sweep : ℕ) : Type 0 where
-  pub later : to < sweep
-  pub next : IsNextSweep journal.params journal.lines sweep
-  pub first : IsFirstBehind journal.params to sweep
-  pub none : NothingDue journal.params journal.lines to

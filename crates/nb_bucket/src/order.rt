@@ -1,5 +1,5 @@
 //! The order of making.
-ghost use Rattle.std.specs.Prelude.{◌≡◌, ◌<◌, ◌≤◌, ◌∷◌, ◌++◌, [], false, filter, is_some, if◌then◌else◌, vec_len, vec_capacity};
+ghost use Rattle.std.specs.Prelude.{◌≡◌, ◌+◌, ◌<◌, ◌≤◌, ◌∷◌, ◌++◌, [], false, filter, is_some, if◌then◌else◌, vec_len, vec_capacity};
 ghost use Rattle.std.specs.Option.{option_to_list};
 ghost use Rattle.nb_journal.specs.Fold as rules;
 ghost use Rattle.nb_bucket.specs.Making as making;
@@ -37,11 +37,12 @@ fn may_remove(op: &Op) -> bool
 }
 
 /// Puts the key behind the others, for which there is room.
-fn push_reserved(order: &mut Vec<Key>, key: Key)
-    requires { vec_len order.old < vec_capacity order.old }
-    ensures { order.new.items ≡ order.old.items ++ key ∷ [] }
+pub fn push_reserved(keys: &mut Vec<Key>, key: Key)
+    requires { vec_len keys.old < vec_capacity keys.old }
+    ensures items { keys.new.items ≡ keys.old.items ++ key ∷ [] }
+    ensures room { vec_capacity keys.old ≤ vec_capacity keys.new }
 {
-    match order.push(key) {
+    match keys.push(key) {
         Ok(()) => {}
         Err(_) => unreachable!(),
     }
@@ -51,7 +52,8 @@ fn push_reserved(order: &mut Vec<Key>, key: Key)
 pub fn update_order(order: &mut Vec<Key>, fold: &Fold, line: &Line, made: Option<Key>)
     requires room { vec_len order.old < vec_capacity order.old }
     requires kept { making.may_remove line.now.op ≡ false → filter (rules.is_present fold.now.params fold.now.lines) order.old.items ≡ order.old.items }
-    ensures { order.new.items ≡ filter (rules.is_present fold.now.params fold.now.lines) order.old.items ++ (if is_some line.now.full then [] else option_to_list made) }
+    ensures order { order.new.items ≡ filter (rules.is_present fold.now.params fold.now.lines) order.old.items ++ (if is_some line.now.full then [] else option_to_list made) }
+    ensures size { vec_len order.new ≤ vec_len order.old + 1 }
 {
     if may_remove(&line.op) {
         keep_present(order, fold);

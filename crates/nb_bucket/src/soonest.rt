@@ -58,6 +58,7 @@ pub fn next_timer(fold: &Fold, until: Moment) -> Option<Line>
         at: due.at,
         id: None,
         op: Op::Timer { key },
+        seen: None,
         full: None,
     })
 }

@@ -1,67 +1,94 @@
 //! How a bucket goes on by time.
 ghost use Rattle.std.specs.Prelude.{◌≡◌, ◌+◌, ◌<◌, ◌≤◌, true, false, IfOk, IfErr, OnOk, OnErr};
 ghost use Rattle.nud_machine.specs.Asked.{greatest};
-ghost use Rattle.nb_journal.specs.Lawful.{NothingDue, IsCrowded, IsLawful};
+ghost use Rattle.nb_journal.specs.Lawful.{NothingDue, IsLawful};
 ghost use Rattle.nb_bucket.specs.Bucket.{HasCause, ComesNext};
-ghost use Rattle.nb_bucket.specs.Keeps.{IsNextSweep, IsFirstBehind};
-ghost use Rattle.nb_bucket.specs.Going.{GoesOneOn, GoesAlong, IsReached};
+ghost use Rattle.nb_bucket.specs.Counting.{shown, IsCensusOf, CountsAlong};
+ghost use Rattle.nb_bucket.specs.Keeps.{IsNextSweep};
+ghost use Rattle.nb_bucket.specs.Going.{GoesOneOn, GoesAlong};
 
 use super::Bucket;
 use crate::BucketFail;
+use crate::counting::{append, look};
 use crate::order::keep_present;
 use crate::room::check_room;
 use crate::soonest::next_timer;
 use nb_base::{Line, Moment, Op};
+use nb_census::Census;
 use std::alloc::Global;
 
 impl Bucket {
-    /// Writes the line of the next timer that is due up to the moment, if there is one.
-    fn push_timer(&mut self, alloc: Global, until: Moment, next: Moment) -> Result<bool, BucketFail>
+    /// Writes the line of the next timer that is due up to the moment, if there is one. No sweep is to stand before the moment.
+    fn push_timer<C: Census>(
+        &mut self,
+        alloc: Global,
+        census: &mut C,
+        until: Moment,
+        next: Moment,
+    ) -> Result<bool, BucketFail>
         requires now { until ≤ greatest }
         requires until { until ≤ next }
-        requires next { IsNextSweep self.old.params self.old.lines next }
+        requires next { IsNextSweep self.old.params self.old.lines self.old.clock next }
+        requires census { IsCensusOf self.old.params self.old.lines (shown C.name C.share C.changes C.looks C.others census.old) }
         ensures pushed { IfOk result (λ more. more ≡ true → GoesOneOn self.old self.new until) }
-        ensures next { IfOk result (λ more. more ≡ true → IsNextSweep self.new.params self.new.lines next) }
+        ensures next { IfOk result (λ more. more ≡ true → IsNextSweep self.new.params self.new.lines self.new.clock next) }
         ensures same { IfOk result (λ more. more ≡ false → self.new ≡ self.old) }
         ensures none { IfOk result (λ more. more ≡ false → NothingDue self.new.params self.new.lines until) }
+        ensures lawful { IfOk result (λ more. more ≡ false → self.new.clock ≤ until → until < next → IsLawful self.new.params self.new.lines until) }
         ensures unchanged { IfErr result (λ fail. self.new ≡ self.old) }
         ensures refused { IfErr result (HasCause self.old (ComesNext self.old.params self.old.lines until)) }
+        ensures counted { CountsAlong self.old.params self.old.lines self.new.lines (shown C.name C.share C.changes C.looks C.others census.old) (shown C.name C.share C.changes C.looks C.others census.new) }
     {
         let Some(line) = next_timer(&self.fold, until) else {
             return Ok(false);
         };
         check_room(self.fold.lines().len() as u32, 1, self.limit)?;
         self.fold.reserve(alloc, 1)?;
-        self.fold.take(&line, &mut self.acts);
+        append(&mut self.fold, census, &line, &mut self.acts);
         self.clock = line.at;
-        self.next_sweep = next;
         Ok(true)
     }
 
-    /// Writes the lines of all timers that are due up to the moment.
-    fn push_timers(&mut self, alloc: Global, until: Moment, next: Moment) -> Result<(), BucketFail>
+    /// Writes the lines of all timers that are due up to the moment. No sweep is to stand before the moment.
+    fn push_timers<C: Census>(
+        &mut self,
+        alloc: Global,
+        census: &mut C,
+        until: Moment,
+        next: Moment,
+    ) -> Result<(), BucketFail>
         requires now { until ≤ greatest }
         requires until { until ≤ next }
-        requires next { IsNextSweep self.old.params self.old.lines next }
+        requires next { IsNextSweep self.old.params self.old.lines self.old.clock next }
+        requires census { IsCensusOf self.old.params self.old.lines (shown C.name C.share C.changes C.looks C.others census.old) }
         ensures along { GoesAlong self.old self.new until }
-        ensures next { OnOk result (IsNextSweep self.new.params self.new.lines next) }
+        ensures next { OnOk result (IsNextSweep self.new.params self.new.lines self.new.clock next) }
         ensures none { OnOk result (NothingDue self.new.params self.new.lines until) }
+        ensures lawful { OnOk result (self.old.clock ≤ until → until < next → IsLawful self.new.params self.new.lines until) }
         ensures refused { IfErr result (HasCause self.new (ComesNext self.new.params self.new.lines until)) }
+        ensures counted { CountsAlong self.old.params self.old.lines self.new.lines (shown C.name C.share C.changes C.looks C.others census.old) (shown C.name C.share C.changes C.looks C.others census.new) }
     {
-        while self.push_timer(alloc, until, next)? {}
+        while self.push_timer(alloc, census, until, next)? {}
         Ok(())
     }
 
-    /// Writes the line of a sweep.
-    fn push_sweep(&mut self, alloc: Global, next: Moment) -> Result<(), BucketFail>
+    /// Writes the line of a sweep, up to which no timer is due any more, with what it sees. Answers the next sweep's moment.
+    fn push_sweep<C: Census>(
+        &mut self,
+        alloc: Global,
+        census: &mut C,
+        next: Moment,
+    ) -> Result<Moment, BucketFail>
         requires now { next ≤ greatest }
-        requires next { IsNextSweep self.old.params self.old.lines next }
+        requires next { IsNextSweep self.old.params self.old.lines self.old.clock next }
         requires none { NothingDue self.old.params self.old.lines next }
-        requires crowded { IsCrowded self.old.params self.old.lines }
+        requires census { IsCensusOf self.old.params self.old.lines (shown C.name C.share C.changes C.looks C.others census.old) }
         ensures pushed { OnOk result (GoesOneOn self.old self.new next) }
-        ensures next { OnOk result (IsNextSweep self.new.params self.new.lines (next + self.new.params.gc_interval)) }
+        ensures next { IfOk result (IsNextSweep self.new.params self.new.lines self.new.clock) }
+        ensures later { IfOk result (λ later. next < later) }
         ensures unchanged { OnErr result (self.new ≡ self.old) }
         ensures refused { IfErr result (HasCause self.old (ComesNext self.old.params self.old.lines next)) }
+        ensures counted { CountsAlong self.old.params self.old.lines self.new.lines (shown C.name C.share C.changes C.looks C.others census.old) (shown C.name C.share C.changes C.looks C.others census.new) }
     {
         check_room(self.fold.lines().len() as u32, 1, self.limit)?;
         self.fold.reserve(alloc, 1)?;
@@ -69,82 +96,72 @@ impl Bucket {
             at: next,
             id: None,
             op: Op::Sweep,
+            seen: Some(look(census)),
             full: None,
         };
-        self.fold.take(&line, &mut self.acts);
+        append(&mut self.fold, census, &line, &mut self.acts);
         keep_present(&mut self.order, &self.fold);
         self.clock = next;
         self.next_sweep = next.after(self.fold.params().gc_interval);
-        Ok(())
+        Ok(self.next_sweep)
     }
 
-    /// Judges the next sweep, up to which no timer is due any more: a line where enough entries are present.
-    fn judge_sweep(&mut self, alloc: Global, next: Moment) -> Result<Moment, BucketFail>
+    /// Writes all lines that come by time up to the next sweep's, and that one. Answers the moment of the sweep after it.
+    fn pass_sweep<C: Census>(
+        &mut self,
+        alloc: Global,
+        census: &mut C,
+        next: Moment,
+    ) -> Result<Moment, BucketFail>
         requires now { next ≤ greatest }
-        requires next { IsNextSweep self.old.params self.old.lines next }
-        requires none { NothingDue self.old.params self.old.lines next }
+        requires next { IsNextSweep self.old.params self.old.lines self.old.clock next }
+        requires census { IsCensusOf self.old.params self.old.lines (shown C.name C.share C.changes C.looks C.others census.old) }
         ensures along { GoesAlong self.old self.new next }
-        ensures next { IfOk result (IsNextSweep self.new.params self.new.lines) }
-        ensures first { IfOk result (IsFirstBehind self.new.params next) }
+        ensures next { IfOk result (IsNextSweep self.new.params self.new.lines self.new.clock) }
         ensures later { IfOk result (λ later. next < later) }
         ensures refused { IfErr result (HasCause self.new (ComesNext self.new.params self.new.lines next)) }
+        ensures counted { CountsAlong self.old.params self.old.lines self.new.lines (shown C.name C.share C.changes C.looks C.others census.old) (shown C.name C.share C.changes C.looks C.others census.new) }
     {
-        let later = next.after(self.fold.params().gc_interval);
-        if self.fold.present() < self.fold.params().gc_thresh1 as usize {
-            return Ok(later);
-        }
-        self.push_sweep(alloc, next)?;
-        Ok(later)
+        self.push_timers(alloc, census, next, next)?;
+        self.push_sweep(alloc, census, next)
     }
 
-    /// Writes all lines that come by time up to the next sweep's moment, and goes on to the sweep after it.
-    fn pass_sweep(&mut self, alloc: Global, next: Moment) -> Result<Moment, BucketFail>
-        requires now { next ≤ greatest }
-        requires next { IsNextSweep self.old.params self.old.lines next }
-        ensures along { GoesAlong self.old self.new next }
-        ensures next { IfOk result (IsNextSweep self.new.params self.new.lines) }
-        ensures first { IfOk result (IsFirstBehind self.new.params next) }
-        ensures later { IfOk result (λ later. next < later) }
-        ensures refused { IfErr result (HasCause self.new (ComesNext self.new.params self.new.lines next)) }
-    {
-        self.push_timers(alloc, next, next)?;
-        self.judge_sweep(alloc, next)
-    }
-
-    /// The moment at which a sweep is to be judged next.
+    /// The moment of the next sweep.
     fn next_sweep(&self) -> Moment
-        ensures next { IsNextSweep self.now.params self.now.lines result }
-        ensures first { IsFirstBehind self.now.params self.now.clock result }
+        ensures { IsNextSweep self.now.params self.now.lines self.now.clock result }
     {
         self.next_sweep
     }
 
-    /// Writes all lines that come by time up to the moment, which isn't before the clock. Answers the moment at which a sweep is
-    /// to be judged next; the clock is that of the last line.
-    pub(super) fn run_to(&mut self, alloc: Global, to: Moment) -> Result<Moment, BucketFail>
+    /// Writes all lines that come by time up to the moment, which isn't before the clock. The clock becomes that of the last line.
+    pub(super) fn run_to<C: Census>(
+        &mut self,
+        alloc: Global,
+        census: &mut C,
+        to: Moment,
+    ) -> Result<(), BucketFail>
         requires now { to ≤ greatest }
         requires clock { self.old.clock ≤ to }
+        requires census { IsCensusOf self.old.params self.old.lines (shown C.name C.share C.changes C.looks C.others census.old) }
         ensures along { GoesAlong self.old self.new to }
-        ensures reached { IfOk result (IsReached self.new to) }
+        ensures lawful { OnOk result (IsLawful self.new.params self.new.lines to) }
         ensures refused { IfErr result (HasCause self.new (ComesNext self.new.params self.new.lines to)) }
+        ensures counted { CountsAlong self.old.params self.old.lines self.new.lines (shown C.name C.share C.changes C.looks C.others census.old) (shown C.name C.share C.changes C.looks C.others census.new) }
     {
         let mut next = self.next_sweep();
         while next <= to {
-            next = self.pass_sweep(alloc, next)?;
+            next = self.pass_sweep(alloc, census, next)?;
         }
-        self.push_timers(alloc, to, next)?;
-        Ok(next)
+        self.push_timers(alloc, census, to, next)
     }
 
-    /// Sets the clock to a moment up to which all that comes by time stands.
-    pub(super) fn settle(&mut self, to: Moment, next: Moment)
+    /// Sets the clock to a moment at which the journal is lawful.
+    pub(super) fn settle(&mut self, to: Moment)
         requires now { to ≤ greatest }
         requires clock { self.old.clock ≤ to }
-        requires reached { IsReached self.old to next }
-        ensures clock { self.new ≡ record self.old { clock = to } }
-        ensures lawful { IsLawful self.new.params self.new.lines to }
+        requires lawful { IsLawful self.old.params self.old.lines to }
+        ensures { self.new ≡ record self.old { clock = to } }
     {
         self.clock = to;
-        self.next_sweep = next;
     }
 }
