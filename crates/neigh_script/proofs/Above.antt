@@ -94,7 +94,7 @@ default_in_range = record {
   ucast_solicit = (omega arith, omega arith);
   proxy_delay = (omega arith, omega arith);
   proxy_qlen = (omega arith, omega arith);
-  unres_qlen = (omega arith, omega arith);
+  unres_qlen_bytes = (omega arith, omega arith);
 }
 
 -- above the first line
@@ -117,7 +117,7 @@ op_written host (op.Del key) h = refl
 op_written host (op.Confirm key) h = refl
 op_written host op.Show h = refl
 op_written host op.Flush h = refl
-op_written host (op.Send key) h = absurd h
+op_written host (op.Send key len) h = absurd h
 op_written host (op.Arp key mac make solicited) h = absurd h
 op_written host (op.Ns key mac) h = absurd h
 op_written host (op.Na key mac router solicited overrides) h = absurd h

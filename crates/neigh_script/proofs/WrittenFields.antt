@@ -132,7 +132,7 @@ parameter-again parameter.McastSolicit = refl
 parameter-again parameter.UcastSolicit = refl
 parameter-again parameter.ProxyDelay = refl
 parameter-again parameter.ProxyQlen = refl
-parameter-again parameter.UnresQlen = refl
+parameter-again parameter.UnresQlenBytes = refl
 
 pub greatest-small : (p : Parameter) → greatest p < 10 ^ 10
 greatest-small parameter.GcThresh1 = omega arith
@@ -148,7 +148,7 @@ greatest-small parameter.McastSolicit = omega arith
 greatest-small parameter.UcastSolicit = omega arith
 greatest-small parameter.ProxyDelay = omega arith
 greatest-small parameter.ProxyQlen = omega arith
-greatest-small parameter.UnresQlen = omega arith
+greatest-small parameter.UnresQlenBytes = omega arith
 
 pub value-again : (p : Parameter) (n : ℕ) → IsInRange (least p) (greatest p) n → fields.value_of p (decimal n) ≡ Ok n
 value-again p n h = (let most = greatest-small p in number-again (least p) (greatest p) n _ h.0 h.1 (omega (arith, h.1)))

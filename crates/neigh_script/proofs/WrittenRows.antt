@@ -61,7 +61,7 @@ parameter-printed parameter.McastSolicit = known (codes "mcast_solicit") (omega 
 parameter-printed parameter.UcastSolicit = known (codes "ucast_solicit") (omega arith) refl
 parameter-printed parameter.ProxyDelay = known (codes "proxy_delay") (omega arith) refl
 parameter-printed parameter.ProxyQlen = known (codes "proxy_qlen") (omega arith) refl
-parameter-printed parameter.UnresQlen = known (codes "unres_qlen") (omega arith) refl
+parameter-printed parameter.UnresQlenBytes = known (codes "unres_qlen_bytes") (omega arith) refl
 
 neighbour-printed : (host : Host) (key : Key) → is_neighbour host key ≡ true → IsPrinted (key_text key)
 neighbour-printed host key h = printed-key key (neighbour-fits host key h)
@@ -130,7 +130,7 @@ op-printed host (op.Del key) own h t = (known (codes "neigh") (omega arith) refl
 op-printed host (op.Confirm key) own h t = (known (codes "confirm") (omega arith) refl, (neighbour-printed host key h, tt))
 op-printed host op.Show own h t = (known (codes "neigh") (omega arith) refl, (known (codes "show") (omega arith) refl, device-printed host own))
 op-printed host op.Flush own h t = (known (codes "neigh") (omega arith) refl, (known (codes "flush") (omega arith) refl, device-printed host own))
-op-printed host (op.Send key) own h t = tt
+op-printed host (op.Send key len) own h t = tt
 op-printed host (op.Arp key mac make solicited) own h t = tt
 op-printed host (op.Ns key mac) own h t = tt
 op-printed host (op.Na key mac router solicited overrides) own h t = tt
@@ -169,7 +169,7 @@ params-within params h = (
                 h.base_reachable_time,
                 (
                   h.delay_first_probe_time,
-                  (h.mcast_solicit, (h.ucast_solicit, (h.proxy_delay, (h.proxy_qlen, (h.unres_qlen, tt))))),
+                  (h.mcast_solicit, (h.ucast_solicit, (h.proxy_delay, (h.proxy_qlen, (h.unres_qlen_bytes, tt))))),
                 ),
               ),
             ),

@@ -20,7 +20,7 @@ at_of (item.Send at sender key payload) = at
 -- one for `show`
 abbrev pub show_count : Op → ℕ
 show_count op.Show = 1
-show_count (op.Send key) = 0
+show_count (op.Send key len) = 0
 show_count (op.Arp key mac make solicited) = 0
 show_count (op.Ns key mac) = 0
 show_count (op.Na key mac router solicited overrides) = 0

@@ -9,7 +9,7 @@ abbrev pub parameters : List Parameter
 parameters =
     parameter.GcThresh1 ∷ parameter.GcThresh2 ∷ parameter.GcThresh3 ∷ parameter.GcInterval ∷ parameter.GcStaleTime
     ∷ parameter.Locktime ∷ parameter.RetransTime ∷ parameter.BaseReachableTime ∷ parameter.DelayFirstProbeTime
-    ∷ parameter.McastSolicit ∷ parameter.UcastSolicit ∷ parameter.ProxyDelay ∷ parameter.ProxyQlen ∷ parameter.UnresQlen ∷ []
+    ∷ parameter.McastSolicit ∷ parameter.UcastSolicit ∷ parameter.ProxyDelay ∷ parameter.ProxyQlen ∷ parameter.UnresQlenBytes ∷ []
 
 -- a parameter's name, as in arp(7)
 abbrev pub parameter_name : Parameter → List ℕ
@@ -26,7 +26,7 @@ parameter_name parameter.McastSolicit = codes "mcast_solicit"
 parameter_name parameter.UcastSolicit = codes "ucast_solicit"
 parameter_name parameter.ProxyDelay = codes "proxy_delay"
 parameter_name parameter.ProxyQlen = codes "proxy_qlen"
-parameter_name parameter.UnresQlen = codes "unres_qlen"
+parameter_name parameter.UnresQlenBytes = codes "unres_qlen_bytes"
 
 -- the first parameter of this name in a list
 abbrev pub named_in : List Parameter → List ℕ → Option Parameter
@@ -52,7 +52,7 @@ least parameter.McastSolicit = 0
 least parameter.UcastSolicit = 0
 least parameter.ProxyDelay = 10
 least parameter.ProxyQlen = 1
-least parameter.UnresQlen = 1
+least parameter.UnresQlenBytes = 256
 
 -- the greatest value of a parameter (this project's own)
 abbrev pub greatest : Parameter → ℕ
@@ -69,7 +69,7 @@ greatest parameter.McastSolicit = 10
 greatest parameter.UcastSolicit = 10
 greatest parameter.ProxyDelay = 10_000_000
 greatest parameter.ProxyQlen = 1_024
-greatest parameter.UnresQlen = 64
+greatest parameter.UnresQlenBytes = 16_448
 
 -- a parameter's value
 abbrev pub value_in : Params → Parameter → ℕ
@@ -86,7 +86,7 @@ value_in params parameter.McastSolicit = params.mcast_solicit
 value_in params parameter.UcastSolicit = params.ucast_solicit
 value_in params parameter.ProxyDelay = params.proxy_delay
 value_in params parameter.ProxyQlen = params.proxy_qlen
-value_in params parameter.UnresQlen = params.unres_qlen
+value_in params parameter.UnresQlenBytes = params.unres_qlen_bytes
 
 -- the parameters with one at another value
 abbrev pub with_value : Parameter → ℕ → Params → Params
@@ -103,4 +103,4 @@ with_value parameter.McastSolicit n params = record params { mcast_solicit = n }
 with_value parameter.UcastSolicit n params = record params { ucast_solicit = n }
 with_value parameter.ProxyDelay n params = record params { proxy_delay = n }
 with_value parameter.ProxyQlen n params = record params { proxy_qlen = n }
-with_value parameter.UnresQlen n params = record params { unres_qlen = n }
+with_value parameter.UnresQlenBytes n params = record params { unres_qlen_bytes = n }

@@ -23,7 +23,7 @@ pub(crate) enum Parameter {
     UcastSolicit,
     ProxyDelay,
     ProxyQlen,
-    UnresQlen,
+    UnresQlenBytes,
 }
 
 impl Parameter {
@@ -42,7 +42,7 @@ impl Parameter {
         Parameter::UcastSolicit,
         Parameter::ProxyDelay,
         Parameter::ProxyQlen,
-        Parameter::UnresQlen,
+        Parameter::UnresQlenBytes,
     ];
 
     /// The parameter's name.
@@ -63,7 +63,7 @@ impl Parameter {
             Parameter::UcastSolicit => "ucast_solicit",
             Parameter::ProxyDelay => "proxy_delay",
             Parameter::ProxyQlen => "proxy_qlen",
-            Parameter::UnresQlen => "unres_qlen",
+            Parameter::UnresQlenBytes => "unres_qlen_bytes",
         }
     }
 
@@ -98,8 +98,8 @@ impl Parameter {
             Some(Parameter::ProxyDelay)
         } else if is_word(text, b"proxy_qlen") {
             Some(Parameter::ProxyQlen)
-        } else if is_word(text, b"unres_qlen") {
-            Some(Parameter::UnresQlen)
+        } else if is_word(text, b"unres_qlen_bytes") {
+            Some(Parameter::UnresQlenBytes)
         } else {
             None
         }
@@ -114,7 +114,7 @@ impl Parameter {
             Parameter::GcInterval => (10_000, 10_000_000),
             Parameter::McastSolicit | Parameter::UcastSolicit => (0, 10),
             Parameter::ProxyQlen => (1, 1_024),
-            Parameter::UnresQlen => (1, 64),
+            Parameter::UnresQlenBytes => (256, 16_448),
             _ => (10, 10_000_000),
         }
     }
@@ -139,7 +139,7 @@ impl Parameter {
             Parameter::UcastSolicit => params.ucast_solicit = value,
             Parameter::ProxyDelay => params.proxy_delay = value,
             Parameter::ProxyQlen => params.proxy_qlen = value,
-            Parameter::UnresQlen => params.unres_qlen = value,
+            Parameter::UnresQlenBytes => params.unres_qlen_bytes = value,
         }
         params
     }

@@ -103,7 +103,7 @@ fn value_of(params: &Params, parameter: Parameter) -> u32
         Parameter::UcastSolicit => params.ucast_solicit,
         Parameter::ProxyDelay => params.proxy_delay,
         Parameter::ProxyQlen => params.proxy_qlen,
-        Parameter::UnresQlen => params.unres_qlen,
+        Parameter::UnresQlenBytes => params.unres_qlen_bytes,
     }
 }
 
