@@ -1,6 +1,6 @@
 -- Each line of a report is a row of clean words, so its text gives its lines back.
 use Rattle.std.proofs.Common.{ℕ, ◌+◌, Bool, true, false, if◌then◌else◌, List, [], ◌∷◌, ◌++◌, length, map, refl, sym, ◌∙◌, ap, ◌≤◌, arith}
-use Rattle.std.specs.Prelude.{codes, decimal}
+use Rattle.std.specs.Prelude.{codes, decimal, nat_le, Option, Some, None}
 use Rattle.std.specs.List.{AllByRecursion}
 use Rattle.nb_base.specs.declared.key.Key.{Key}
 use Rattle.nb_base.specs.declared.host.Host.{Host}
@@ -25,7 +25,7 @@ use Rattle.neigh_run.specs.declared.run.Run.{Run}
 use Rattle.neigh_run.specs.Spelling.{op_words, reply_part}
 use Rattle.neigh_run.specs.Frames.{sent_frame, group_solicitation, unicast_solicitation}
 use Rattle.neigh_run.specs.Entries.{entry_words, entry_if_present, entries_after, proxy_words}
-use Rattle.neigh_run.specs.Report.{head_words, act_line, key_lines, lines_below, line_words, journal_lines, bucket_lines, host_line_words, log_lines, sender_lines, mark_words, fates_words, table, proxies, counted, report, report_text}
+use Rattle.neigh_run.specs.Report.{head_words, act_line, key_lines, lines_below, set_in, seen_lines, all_below, line_words, journal_lines, bucket_lines, host_line_words, log_lines, sender_lines, mark_words, fates_words, table, proxies, counted, report, report_text}
 use Rattle.neigh_run.specs.Laws.{ReportsGiveTheirLinesBack, TextsTellReports}
 use Rattle.neigh_run.proofs.CleanWords.{all-flat_map, all-map, clean-decimal, clean-hex, clean-key, clean-name}
 use Rattle.neigh_run.proofs.CleanSpelling.{AreClean, clean-mode, clean-host, clean-op, clean-id, clean-reply_part, clean-cause, clean-entry, clean-host_line, clean-outcome, clean-start}
@@ -63,6 +63,16 @@ below-rows : (plan : Plan) (past : List Line) (line : Line) (o : Op) → IsClean
 below-rows plan past line op.Show dev = shown-rows (entries_after plan.host plan.params past) (entry-rows plan.host plan.params past dev)
 below-rows plan past line _ dev = all-flat_map IsCleanRow (key_lines plan past line) (key-rows plan past line) (known_keys (past ++ line ∷ []))
 
+seen-rows : (buckets : ℕ) (seen : Option ℕ) → AreRows (seen_lines buckets seen)
+seen-rows buckets None = tt
+seen-rows buckets (Some seen) = by_test (nat_le 2 buckets) where
+  by_test : (many : Bool) → AreRows (if many then set_in (codes "seen" ∷ decimal seen ∷ []) ∷ [] else [])
+  by_test true = ((omega arith, (refl, (refl, (refl, (clean-decimal seen, tt))))), tt)
+  by_test false = tt
+
+all-rows : (plan : Plan) (past : List Line) (line : Line) → IsClean plan.host.dev → AreRows (all_below plan past line)
+all-rows plan past line dev = Each-append IsCleanRow (seen_lines plan.buckets line.seen) (lines_below plan past line line.op) (seen-rows plan.buckets line.seen) (below-rows plan past line line.op dev)
+
 line-words : (plan : Plan) (past : List Line) (line : Line) → IsCleanRow (line_words plan past line)
 line-words plan past line = (
   omega arith,
@@ -81,7 +91,7 @@ line-words plan past line = (
 journal-rows : (plan : Plan) (past journal : List Line) → IsClean plan.host.dev → AreRows (journal_lines plan past journal)
 journal-rows plan past [] dev = tt
 journal-rows plan past (line ∷ lines) dev =
-    (line-words plan past line, Each-append IsCleanRow (lines_below plan past line line.op) (journal_lines plan (past ++ line ∷ []) lines) (below-rows plan past line line.op dev) (journal-rows plan (past ++ line ∷ []) lines dev))
+    (line-words plan past line, Each-append IsCleanRow (all_below plan past line) (journal_lines plan (past ++ line ∷ []) lines) (all-rows plan past line dev) (journal-rows plan (past ++ line ∷ []) lines dev))
 
 bucket-rows : (plan : Plan) (b : ℕ) (journals : List (List Line)) → IsClean plan.host.dev → AreRows (bucket_lines plan b journals)
 bucket-rows plan b [] dev = tt

@@ -1,5 +1,5 @@
 -- The parts of a report's lines are words without space and LF.
-use Rattle.std.proofs.Common.{ℕ, Bool, true, false, if◌then◌else◌, List, [], ◌∷◌, ◌++◌, map, Option, Some, None, refl}
+use Rattle.std.proofs.Common.{ℕ, Bool, true, false, ◌==◌, if◌then◌else◌, List, [], ◌∷◌, ◌++◌, map, Option, Some, None, refl}
 use Rattle.std.specs.Prelude.{codes, decimal}
 use Rattle.std.specs.List.{AllByRecursion}
 use Rattle.nb_base.specs.declared.mac.Mac.{Mac}
@@ -99,7 +99,7 @@ clean-given : (name : List ℕ) (key : Key) (mac : Option Mac) (n : Nud) → IsC
 clean-given name key mac n h = (h, (clean-key key, (clean-mac_word mac, (clean-state n, tt))))
 
 pub clean-op : (o : Op) → AreClean (op_words o)
-clean-op (op.Send key) = (refl, (clean-key key, tt))
+clean-op (op.Send key len) = (refl, (clean-key key, tt))
 clean-op (op.Arp key mac make solicited) =
     (refl, (clean-key key, (clean-mac mac, (clean-either make (codes "make") (codes "keep") refl refl, (clean-either solicited (codes "reachable") (codes "stale") refl refl, tt)))))
 clean-op (op.Ns key mac) = (refl, (clean-key key, (clean-mac mac, tt)))
@@ -121,9 +121,11 @@ clean-id (Some id) = clean-decimal id.0
 
 -- ---- replies
 
-clean-dropping : (dropped : Option OpId) → AreClean (dropping_words dropped)
-clean-dropping None = tt
-clean-dropping (Some id) = (refl, (clean-decimal id.0, tt))
+clean-dropping : (dropped : ℕ) → AreClean (dropping_words dropped)
+clean-dropping dropped = by_test (dropped == 0) where
+  by_test : (none : Bool) → AreClean (if none then [] else codes "dropping" ∷ decimal dropped ∷ [])
+  by_test true = tt
+  by_test false = (refl, (clean-decimal dropped, tt))
 
 pub clean-reply : (r : Reply) → AreClean (reply_words r)
 clean-reply reply.Sent = (refl, tt)

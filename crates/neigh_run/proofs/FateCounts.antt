@@ -2,7 +2,6 @@
 use Rattle.std.proofs.Common.{◌≡◌, ℕ, zero, suc, ◌+◌, ◌<◌, ◌≤◌, Bool, true, false, ◌||◌, ◌==◌, if◌then◌else◌, List, [], ◌∷◌, ◌++◌, length, map, refl, sym, ◌∙◌, ap, subst, arith, length-append}
 use Rattle.std.specs.Prelude.{filter, slice_index_or, sum_by}
 use Rattle.std.specs.List.{flat_map, list_any, AllByRecursion}
-use Rattle.std.proofs.lemmas.Bool.{or_parts, eqb-true, eq-eqb}
 use Rattle.std.proofs.lemmas.List.Elements.{filter-append}
 use Rattle.std.proofs.lemmas.List.Sums.{sum_by-cons}
 use Rattle.nb_base.specs.declared.key.Key.{Key}
@@ -16,10 +15,11 @@ use Rattle.nud_machine.specs.declared.act.Act.TheVariants as act
 use Rattle.nb_base.specs.declared.outcome.Outcome.{Outcome}
 use Rattle.nb_journal.specs.Keys.{is_send}
 use Rattle.nb_journal.specs.Fold.{state_of, known_keys, is_transmit}
+use Rattle.nud_machine.specs.Laws.{ids_of}
 use Rattle.nb_journal.specs.Accounts.{Fate, Waits, is_id, fate_by_act, acts_at, ends_behind, is_waiting, fates_of, is_drop, acts_behind, waiting_behind}
 use Rattle.neigh_run.specs.declared.run.Run.{Run}
 use Rattle.neigh_run.specs.Control.{host_start}
-use Rattle.neigh_run.specs.Merged.{Entered, control_ops, sender_ops, senders_ops, packet_count, is_sending}
+use Rattle.neigh_run.specs.Merged.{Entered, control_ops, sender_ops, senders_ops, is_sending}
 use Rattle.neigh_run.specs.Inline.{IsInlineRun, journal_at}
 use Rattle.neigh_run.specs.Report.{is_fast, all_acts, journal_acts, waiting_after, sent_count, fast_count, dropped_count, waiting_count}
 use Rattle.neigh_run.specs.Fates.{PacketFate, Fast, By, bucket_for, journal_fates, packet_fates, is_fast_fate, is_sent_fate, is_dropped_fate, is_waiting_fate, fate_count, CountFates}
@@ -266,7 +266,7 @@ waits_journal p journal id =
     let rest = by_test (is_waiting p journal id) refl in
     omega (arith, lines, both, rest) where
       by_test : (t : Bool) → is_waiting p journal id ≡ t → passing is_waiting_fate (if t then Waits ∷ [] else []) ≤ times id (waiting_behind p journal)
-      by_test true e = let some = some_queue id (λ key. (state_of p journal key).waiting) (known_keys journal) e in omega (arith, some)
+      by_test true e = let some = some_queue id (λ key. ids_of (state_of p journal key).waiting) (known_keys journal) e in omega (arith, some)
       by_test false e = omega arith
 
 waits_at_place : (plan : Plan) (id : OpId) (journals : List (List Line)) (k : ℕ) → k < length journals

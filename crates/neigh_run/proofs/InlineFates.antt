@@ -14,10 +14,10 @@ use Rattle.nud_machine.specs.declared.act.Act.{Act}
 use Rattle.nb_journal.specs.Keys.{is_own, is_send}
 use Rattle.nb_journal.specs.Fold.{is_transmit}
 use Rattle.nb_journal.specs.Lawful.{last_moment}
-use Rattle.nb_journal.specs.Accounts.{is_drop, send_lines, fates_total}
+use Rattle.nb_journal.specs.Accounts.{is_drop, send_lines, own_lines, fates_total}
 use Rattle.nb_journal.proofs.FatesTotal.{fates_sum}
 use Rattle.neigh_run.specs.Merged.{merged, merged_for}
-use Rattle.neigh_run.specs.Inline.{entered_line, own_lines, IsInlineJournal, AreInlineJournals, log_of, logs_of}
+use Rattle.neigh_run.specs.Inline.{entered_line, IsInlineJournal, AreInlineJournals, log_of, logs_of}
 use Rattle.neigh_run.specs.Report.{journal_acts, waiting_after, is_fast, sent_count, fast_count, dropped_count, waiting_count}
 use Rattle.neigh_run.specs.Laws.{FatesAddUpInline}
 use Rattle.neigh_run.proofs.MergedSends.{sends_in, merged-sends, over, over-all}
@@ -25,7 +25,7 @@ use Rattle.neigh_run.proofs.MergedSends.{sends_in, merged-sends, over, over-all}
 -- ---- a journal
 
 own_send : (o : Op) → is_send o ≡ true → is_own o ≡ true
-own_send (op.Send key) e = refl
+own_send (op.Send key len) e = refl
 own_send _ e = cc
 
 -- the lines that send are the operations that do
@@ -39,8 +39,8 @@ journal-sends (l ∷ ls) = by_test (is_send l.op) (is_own l.op) refl (own_send l
   by_test false true e own rest = rw e rest
   by_test false false e own rest = rest
 
-journal-fates : (plan : Plan) (b : ℕ) (journal : List Line) → IsInlineJournal plan b journal → fates_total plan.params journal ≡ sends_in (merged_for plan b)
-journal-fates plan b journal h = fates_sum plan.params journal (last_moment journal) h.lawful ∙ journal-sends journal ∙ ap sends_in h.entered
+journal-fates : (plan : Plan) (all : List (List Line)) (b : ℕ) (journal : List Line) → IsInlineJournal plan all b journal → fates_total plan.params journal ≡ sends_in (merged_for plan b)
+journal-fates plan all b journal h = fates_sum plan.params journal (last_moment journal) h.lawful ∙ journal-sends journal ∙ ap sends_in h.entered
 
 -- ---- all journals
 
@@ -53,11 +53,11 @@ journals_total plan journals =
     length (filter is_transmit (flat_map (journal_acts plan []) journals)) + length (filter is_drop (flat_map (journal_acts plan []) journals))
     + length (flat_map (waiting_after plan) journals)
 
-journals-fates : (plan : Plan) (b : ℕ) (journals : List (List Line)) → AreInlineJournals plan b journals → journals_total plan journals ≡ over plan.buckets (merged plan) b journals
-journals-fates plan b [] h = refl
-journals-fates plan b (j ∷ js) h =
-    let here = journal-fates plan b j h.0 in
-    let rest = journals-fates plan (b + 1) js h.1 in
+journals-fates : (plan : Plan) (all : List (List Line)) (b : ℕ) (journals : List (List Line)) → AreInlineJournals plan all b journals → journals_total plan journals ≡ over plan.buckets (merged plan) b journals
+journals-fates plan all b [] h = refl
+journals-fates plan all b (j ∷ js) h =
+    let here = journal-fates plan all b j h.0 in
+    let rest = journals-fates plan all (b + 1) js h.1 in
     let sent = count-append is_transmit (journal_acts plan [] j) (flat_map (journal_acts plan []) js) in
     let dropped = count-append is_drop (journal_acts plan [] j) (flat_map (journal_acts plan []) js) in
     let waiting = length-append (waiting_after plan j) (flat_map (waiting_after plan) js) in
@@ -78,7 +78,7 @@ logs-slow plan journals p (items ∷ senders) =
 
 pub inline_fates : FatesAddUpInline
 inline_fates plan run some quiet h =
-    let journals = journals-fates plan 0 run.journals h.journals in
+    let journals = journals-fates plan run.journals 0 run.journals h.journals in
     let buckets = over-all plan.buckets (merged plan) run.journals some h.buckets in
     let packets = merged-sends plan quiet in
     let fast : fast_count run ≡ 0 = ap (λ (logs : List (List Outcome)). length (flat_map (filter is_fast) logs)) h.logs ∙ ap length (logs-slow plan run.journals 1 plan.senders) in

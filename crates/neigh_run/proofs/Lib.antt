@@ -1,5 +1,8 @@
-pub mod Entered
+pub mod Fronts
+pub mod FrontsLawful
 pub mod OneRun
+pub mod OneBucket
+pub mod Order
 pub mod CleanWords
 pub mod CleanSpelling
 pub mod CleanRows

@@ -122,19 +122,19 @@ over-nil : (buckets b : ℕ) (journals : List (List Line)) → over buckets [] b
 over-nil buckets b [] = refl
 over-nil buckets b (journal ∷ journals) = let rest = over-nil buckets (b + 1) journals in omega (arith, rest)
 
-hits-before : (buckets : ℕ) (key : Key) (b : ℕ) (journals : List (List Line)) → bucket_of buckets key < b → hits buckets (op.Send key) b journals ≡ 0
-hits-before buckets key b [] h = refl
-hits-before buckets key b (journal ∷ journals) h =
-    let rest = hits-before buckets key (b + 1) journals (omega (arith, h)) in
+hits-before : (buckets : ℕ) (key : Key) (len : ℕ) (b : ℕ) (journals : List (List Line)) → bucket_of buckets key < b → hits buckets (op.Send key len) b journals ≡ 0
+hits-before buckets key len b [] h = refl
+hits-before buckets key len b (journal ∷ journals) h =
+    let rest = hits-before buckets key len (b + 1) journals (omega (arith, h)) in
     let off : (bucket_of buckets key == b) ≡ false = grind (arith, nat_tests, h) in
     let none = ap one_if off in
     omega (arith, rest, none)
 
-hits-one : (buckets : ℕ) (key : Key) (b : ℕ) (journals : List (List Line)) → b ≤ bucket_of buckets key → bucket_of buckets key < b + length journals → hits buckets (op.Send key) b journals ≡ 1
-hits-one buckets key b [] le lt = absurd (omega (arith, le, lt))
-hits-one buckets key b (journal ∷ journals) le lt = by_test (bucket_of buckets key == b) refl (λ more. hits-one buckets key (b + 1) journals more (omega (arith, lt))) where
-  by_test : (t : Bool) → (bucket_of buckets key == b) ≡ t → (b + 1 ≤ bucket_of buckets key → hits buckets (op.Send key) (b + 1) journals ≡ 1) → one_if t + hits buckets (op.Send key) (b + 1) journals ≡ 1
-  by_test true e rest = let same : bucket_of buckets key ≡ b = grind (arith, nat_tests, e) in let none = hits-before buckets key (b + 1) journals (omega (arith, same)) in omega (arith, none)
+hits-one : (buckets : ℕ) (key : Key) (len : ℕ) (b : ℕ) (journals : List (List Line)) → b ≤ bucket_of buckets key → bucket_of buckets key < b + length journals → hits buckets (op.Send key len) b journals ≡ 1
+hits-one buckets key len b [] le lt = absurd (omega (arith, le, lt))
+hits-one buckets key len b (journal ∷ journals) le lt = by_test (bucket_of buckets key == b) refl (λ more. hits-one buckets key len (b + 1) journals more (omega (arith, lt))) where
+  by_test : (t : Bool) → (bucket_of buckets key == b) ≡ t → (b + 1 ≤ bucket_of buckets key → hits buckets (op.Send key len) (b + 1) journals ≡ 1) → one_if t + hits buckets (op.Send key len) (b + 1) journals ≡ 1
+  by_test true e rest = let same : bucket_of buckets key ≡ b = grind (arith, nat_tests, e) in let none = hits-before buckets key len (b + 1) journals (omega (arith, same)) in omega (arith, none)
   by_test false e rest = let more : b + 1 ≤ bucket_of buckets key = grind (arith, nat_tests, e, le) in let one = rest more in omega (arith, one)
 
 bucket-small : (buckets : ℕ) (key : Key) → 0 < buckets → bucket_of buckets key < buckets
@@ -146,7 +146,7 @@ hits-none buckets o b [] e = refl
 hits-none buckets o b (journal ∷ journals) e = let rest = hits-none buckets o (b + 1) journals e in rw e (omega (arith, rest))
 
 hits-are : (buckets : ℕ) (o : Op) (journals : List (List Line)) → 0 < buckets → length journals ≡ buckets → hits buckets o 0 journals ≡ one_if (is_send o)
-hits-are buckets (op.Send key) journals some long = let small = bucket-small buckets key some in hits-one buckets key 0 journals (omega arith) (omega (arith, small, long))
+hits-are buckets (op.Send key len) journals some long = let small = bucket-small buckets key some in hits-one buckets key len 0 journals (omega arith) (omega (arith, small, long))
 hits-are buckets o journals some long = hits-none buckets o 0 journals refl
 
 -- each sending operation goes to one bucket

@@ -14,7 +14,7 @@ use Rattle.nb_base.specs.declared.plan.SendItem.{SendItem}
 use Rattle.nb_base.specs.declared.plan.ControlItem.{ControlItem}
 use Rattle.neigh_run.specs.Control.{HostState, host_start, turn}
 use Rattle.neigh_run.specs.Merged.{Entered, id_for, control_ops, sender_ops, senders_ops}
-use Rattle.neigh_run.specs.Plan.{AreLists, IsWithinLimits, send_at, control_at}
+use Rattle.neigh_run.specs.Plan.{AreSendLists, IsWithinLimits, send_at, control_at}
 use Rattle.neigh_run.proofs.Counting.{Each, each_append, count, count_append}
 
 -- the operation has this id
@@ -44,7 +44,7 @@ none_below p n (x ∷ xs) id lt =
 once_in : (p n : ℕ) (items : List SendItem) (id : OpId) → count (has_id id) (sender_ops p n items) ≤ 1
 once_in p n [] id = omega arith
 once_in p n (x ∷ xs) id = by_test (32 * n + p == id.0) refl (once_in p (n + 1) xs id) where
-  by_test : (b : Bool) → (32 * n + p == id.0) ≡ b → count (has_id id) (sender_ops p (n + 1) xs) ≤ 1 → length (if b then record { at = x.at; id = id_for p n; op = op.Send x.key } ∷ filter (has_id id) (sender_ops p (n + 1) xs) else filter (has_id id) (sender_ops p (n + 1) xs)) ≤ 1
+  by_test : (b : Bool) → (32 * n + p == id.0) ≡ b → count (has_id id) (sender_ops p (n + 1) xs) ≤ 1 → length (if b then record { at = x.at; id = id_for p n; op = op.Send x.key (length x.payload) } ∷ filter (has_id id) (sender_ops p (n + 1) xs) else filter (has_id id) (sender_ops p (n + 1) xs)) ≤ 1
   by_test true e rest =
       let same = eqb-true (32 * n + p) id.0 e in
       let none = none_below p (n + 1) xs id (omega (arith, same)) in
@@ -58,7 +58,7 @@ none_of_other p n (x ∷ xs) id lt other =
 
 all_by : (p n : ℕ) (items : List SendItem) → p < 32 → filter (is_by p) (sender_ops p n items) ≡ sender_ops p n items
 all_by p n [] lt = refl
-all_by p n (x ∷ xs) lt = rw (eq-eqb ((32 * n + p) % 32) p (by_participant n p lt)) (ap (λ (ys : List Entered). record { at = x.at; id = id_for p n; op = op.Send x.key } ∷ ys) (all_by p (n + 1) xs lt))
+all_by p n (x ∷ xs) lt = rw (eq-eqb ((32 * n + p) % 32) p (by_participant n p lt)) (ap (λ (ys : List Entered). record { at = x.at; id = id_for p n; op = op.Send x.key (length x.payload) } ∷ ys) (all_by p (n + 1) xs lt))
 
 none_by : (p q n : ℕ) (items : List SendItem) → p < 32 → (p ≡ q → ⊥) → filter (is_by q) (sender_ops p n items) ≡ []
 none_by p q n [] lt other = refl
@@ -219,10 +219,10 @@ small_sender : (p n : ℕ) (items : List SendItem) → p ≤ 16 → n + length i
 small_sender p n [] le few = tt
 small_sender p n (x ∷ xs) le few = (omega (arith, le, few), small_sender p (n + 1) xs le (omega (arith, few)))
 
-small_senders : (p : ℕ) (senders : List (List SendItem)) → p + length senders ≤ 17 → AreLists senders → Each IsSmall (senders_ops p senders)
+small_senders : (p : ℕ) (senders : List (List SendItem)) → p + length senders ≤ 17 → AreSendLists senders → Each IsSmall (senders_ops p senders)
 small_senders p [] few lists = tt
 small_senders p (items ∷ rest) few lists =
-    let long = lists.0.few in
+    let long = lists.0.list.few in
     let same = length-map items send_at in
     each_append IsSmall (sender_ops p 1 items) (senders_ops (p + 1) rest) (small_sender p 1 items (omega (arith, few)) (omega (arith, long, same))) (small_senders (p + 1) rest (omega (arith, few)) lists.1)
 

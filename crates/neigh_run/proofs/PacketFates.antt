@@ -1,5 +1,5 @@
 -- Each packet of an inline run has one fate: the journal of its bucket sends it once.
-use Rattle.std.proofs.Common.{◌≡◌, ℕ, zero, suc, ◌+◌, ◌<◌, ◌≤◌, Bool, true, false, ◌&&◌, ◌==◌, if◌then◌else◌, List, [], ◌∷◌, ◌++◌, length, map, Option, Some, refl, sym, ◌∙◌, ap, subst, arith, length-append, append_assoc}
+use Rattle.std.proofs.Common.{◌≡◌, ℕ, zero, suc, ◌+◌, ◌<◌, ◌≤◌, Bool, true, false, ◌&&◌, ◌==◌, if◌then◌else◌, List, [], ◌∷◌, ◌++◌, length, map, refl, sym, ◌∙◌, ap, subst, arith, append_assoc}
 use Rattle.std.specs.Prelude.{filter, slice_index_or}
 use Rattle.std.specs.List.{flat_map, AllByRecursion}
 use Rattle.std.proofs.lemmas.Bool.{false≢true, eqb-true, eq-eqb}
@@ -18,12 +18,12 @@ use Rattle.nb_base.specs.Buckets.{bucket_of}
 use Rattle.nb_journal.specs.Keys.{is_own, is_send}
 use Rattle.nb_journal.specs.Fold.{id_of}
 use Rattle.nb_journal.specs.Lawful.{last_moment}
-use Rattle.nb_journal.specs.Accounts.{Fate, is_id, sends_packet, times_sent, fates_of}
+use Rattle.nb_journal.specs.Accounts.{Fate, is_id, sends_packet, times_sent, fates_of, own_lines}
 use Rattle.nb_journal.proofs.Fates.{one_fate_each}
 use Rattle.neigh_run.specs.declared.run.Run.{Run}
 use Rattle.neigh_run.specs.Control.{host_start}
 use Rattle.neigh_run.specs.Merged.{Entered, control_ops, sender_ops, senders_ops, merged, merged_for, goes_to}
-use Rattle.neigh_run.specs.Inline.{entered_line, own_lines, IsInlineJournal, AreInlineJournals, IsInlineRun, journal_at, logs_of}
+use Rattle.neigh_run.specs.Inline.{entered_line, IsInlineJournal, AreInlineJournals, IsInlineRun, journal_at}
 use Rattle.neigh_run.specs.Report.{is_fast}
 use Rattle.neigh_run.specs.Fates.{PacketFate, By, bucket_for, journal_fates, fates_with, packet_fates, HasOneFateEach}
 use Rattle.neigh_run.proofs.Counting.{Each, each_append, count, count_append, count_all}
@@ -34,18 +34,18 @@ use Rattle.neigh_run.proofs.InlineFates.{logs-slow}
 
 -- an operation sends the packet of this id
 abbrev pub sends_by : OpId → OpId → Op → Bool
-sends_by id own (op.Send key) = is_id id own
+sends_by id own (op.Send key len) = is_id id own
 sends_by id own _ = false
 
 abbrev pub sends_it : OpId → Entered → Bool
 sends_it id x = sends_by id x.id x.op
 
 line_sends : (id : OpId) (l : Line) (o : Op) → sends_packet id l o ≡ sends_by id (id_of l) o
-line_sends id l (op.Send key) = refl
+line_sends id l (op.Send key len) = refl
 line_sends id l _ = refl
 
 sends_own : (id own : OpId) (o : Op) → sends_by id own o ≡ true → is_own o ≡ true
-sends_own id own (op.Send key) e = refl
+sends_own id own (op.Send key len) e = refl
 sends_own id own _ e = cc
 
 times_entered : (id : OpId) (journal : List Line) → times_sent journal id ≡ count (sends_it id) (map entered_line (own_lines journal))
@@ -87,7 +87,7 @@ both_true true c e = e
 both_true false c e = cc
 
 same_id : (id own : OpId) (o : Op) → sends_by id own o ≡ true → (own.0 == id.0) ≡ true
-same_id id own (op.Send key) e = eq-eqb own.0 id.0 (sym (eqb-true id.0 own.0 e))
+same_id id own (op.Send key len) e = eq-eqb own.0 id.0 (sym (eqb-true id.0 own.0 e))
 same_id id own _ e = cc
 
 -- the packet is one of the plan's
@@ -117,12 +117,12 @@ bucket_once plan x b few is sends goes =
 
 -- ---- the journals of a run
 
-inline_at : (plan : Plan) (b : ℕ) (journals : List (List Line)) (k : ℕ) → k < length journals → AreInlineJournals plan b journals → IsInlineJournal plan (b + k) (slice_index_or journals k [])
-inline_at plan b [] k lt h = absurd (omega (arith, lt))
-inline_at plan b (j ∷ js) zero lt h = let same : b ≡ b + 0 = omega arith in subst (λ (n : ℕ). IsInlineJournal plan n j) same h.0
-inline_at plan b (j ∷ js) (suc k) lt h =
+pub inline_at : (plan : Plan) (all : List (List Line)) (b : ℕ) (journals : List (List Line)) (k : ℕ) → k < length journals → AreInlineJournals plan all b journals → IsInlineJournal plan all (b + k) (slice_index_or journals k [])
+inline_at plan all b [] k lt h = absurd (omega (arith, lt))
+inline_at plan all b (j ∷ js) zero lt h = let same : b ≡ b + 0 = omega arith in subst (λ (n : ℕ). IsInlineJournal plan all n j) same h.0
+inline_at plan all b (j ∷ js) (suc k) lt h =
     let same : b + 1 + k ≡ b + suc k = omega arith in
-    subst (λ (n : ℕ). IsInlineJournal plan n (slice_index_or js k [])) same (inline_at plan (b + 1) js k (omega (arith, lt)) h.1)
+    subst (λ (n : ℕ). IsInlineJournal plan all n (slice_index_or js k [])) same (inline_at plan all (b + 1) js k (omega (arith, lt)) h.1)
 
 small_bucket : (buckets : ℕ) (key : Key) → 0 < buckets → bucket_of buckets key < buckets
 small_bucket buckets (V4 address) some = omega arith
@@ -134,7 +134,7 @@ is_id_same id = eq-eqb id.0 id.0 refl
 -- an operation that sends goes to its key's bucket, which is one of the buckets
 pub packet_goes : (plan : Plan) (id : OpId) (o : Op) → 0 < plan.buckets → is_send o ≡ true
     → (sends_by id id o ≡ true) × (goes_to plan.buckets (bucket_for plan.buckets o) o ≡ true) × (bucket_for plan.buckets o < plan.buckets)
-packet_goes plan id (op.Send key) some e = (is_id_same id, eq-eqb (bucket_of plan.buckets key) (bucket_of plan.buckets key) refl, small_bucket plan.buckets key some)
+packet_goes plan id (op.Send key len) some e = (is_id_same id, eq-eqb (bucket_of plan.buckets key) (bucket_of plan.buckets key) refl, small_bucket plan.buckets key some)
 packet_goes plan id _ some e = absurd cc
 
 -- ---- one fate
@@ -146,7 +146,7 @@ one_in_journal plan run x some few h is send =
     let goes = packet_goes plan x.id x.op some send in
     let long = h.buckets in
     let lt : b < length run.journals = (let small = goes.2 in omega (arith, small, long)) in
-    let journal : IsInlineJournal plan b (journal_at run.journals b) = (let first : 0 + b ≡ b = omega arith in subst (λ (n : ℕ). IsInlineJournal plan n (journal_at run.journals b)) first (inline_at plan 0 run.journals b lt h.journals)) in
+    let journal : IsInlineJournal plan run.journals b (journal_at run.journals b) = (let first : 0 + b ≡ b = omega arith in subst (λ (n : ℕ). IsInlineJournal plan run.journals n (journal_at run.journals b)) first (inline_at plan run.journals 0 run.journals b lt h.journals)) in
     let times : times_sent (journal_at run.journals b) x.id ≡ 1 =
     times_entered x.id (journal_at run.journals b) ∙ (ap (count (sends_it x.id)) journal.entered ∙ bucket_once plan x b few is goes.0 goes.1) in
     one_fate_each plan.params (journal_at run.journals b) (last_moment (journal_at run.journals b)) x.id journal.lawful times

@@ -1,5 +1,5 @@
 -- The one run of a plan by one thread.
-use Rattle.std.specs.Prelude.{◌≡◌, ℕ, zero, suc, ◌+◌, Bool, true, false, ◌==◌, if◌then◌else◌, List, [], ◌∷◌, ◌++◌, map, filter, length, Option, Some, None, unwrap_or, slice_index_or}
+use Rattle.std.specs.Prelude.{◌≡◌, ℕ, zero, suc, ◌+◌, Bool, true, false, ◌==◌, if◌then◌else◌, List, [], ◌∷◌, ◌++◌, map, length, Option, Some, None, unwrap_or, slice_index_or}
 use Rattle.std.specs.Option.{option_map_or}
 use Rattle.nb_base.specs.declared.time.OpId.{OpId}
 use Rattle.nb_base.specs.declared.params.Params.{Params}
@@ -18,18 +18,18 @@ use Rattle.nb_base.specs.declared.host_line.Placed.{Placed}
 use Rattle.nb_base.specs.declared.host_line.HostLine.{HostLine}
 use Rattle.nb_journal.specs.Keys.{is_own}
 use Rattle.nb_journal.specs.Fold.{id_of, reply_of}
-use Rattle.nb_journal.specs.Lawful.{IsLawful, last_moment}
+use Rattle.nb_journal.specs.Lawful.{EachLine, IsLawful, last_moment}
+use Rattle.nb_journal.specs.Accounts.{own_lines}
+use Rattle.nb_journal.specs.Laws.{Saw}
 use Rattle.neigh_run.specs.declared.run.Run.{Run}
 use Rattle.nb_base.specs.Buckets.{bucket_of}
 use Rattle.neigh_run.specs.Control.{HostState, host_start, turn}
 use Rattle.neigh_run.specs.Merged.{Entered, id_for, goes_to, merged_for}
+use Rattle.neigh_run.specs.Seen.{sees}
 
 -- the lines of operations, as they were entered
 abbrev pub entered_line : Line → Entered
 entered_line line = record { at = line.at; id = id_of line; op = line.op }
-
-abbrev pub own_lines : List Line → List Line
-own_lines journal = filter (λ line. is_own line.op) journal
 
 -- the last line is of an operation, or there is none
 abbrev pub ends_own : List Line → Bool
@@ -37,16 +37,17 @@ ends_own [] = true
 ends_own (line ∷ []) = is_own line.op
 ends_own (line ∷ next ∷ lines) = ends_own (next ∷ lines)
 
--- bucket b's journal is lawful, enters the bucket's operations in merged order at their moments, and ends with them
-pub record IsInlineJournal (plan : Plan) (b : ℕ) (journal : List Line) : Type 0 where
+-- bucket b's journal is lawful, enters the bucket's operations in merged order at their moments, and ends with them; each of its lines that looked saw the entries of the whole table, which these journals are, as it stood before the line and its collect lines
+pub record IsInlineJournal (plan : Plan) (all : List (List Line)) (b : ℕ) (journal : List Line) : Type 0 where
   pub lawful : IsLawful plan.params journal (last_moment journal)
   pub ends : ends_own journal ≡ true
   pub entered : map entered_line (own_lines journal) ≡ merged_for plan b
+  pub seen : EachLine (Saw (sees plan all b)) journal
 
 -- the journals of the buckets from b on
-abbrev pub AreInlineJournals : Plan → ℕ → List (List Line) → Type 0
-AreInlineJournals plan b [] = Unit {0}
-AreInlineJournals plan b (journal ∷ journals) = IsInlineJournal plan b journal × AreInlineJournals plan (b + 1) journals
+abbrev pub AreInlineJournals : Plan → List (List Line) → ℕ → List (List Line) → Type 0
+AreInlineJournals plan all b [] = Unit {0}
+AreInlineJournals plan all b (journal ∷ journals) = IsInlineJournal plan all b journal × AreInlineJournals plan all (b + 1) journals
 
 -- the place of the operation with this id behind the past, and its reply
 abbrev pub find_place : Params → List Line → List Line → OpId → Option (ℕ × Option Reply)
@@ -103,7 +104,7 @@ pub record IsInlineRun (whole : Plan) (run : Run) : Type 0 where
   pub mode : run.mode ≡ mode.Inline
   pub plan : run.plan ≡ whole
   pub buckets : length run.journals ≡ whole.buckets
-  pub journals : AreInlineJournals whole 0 run.journals
+  pub journals : AreInlineJournals whole run.journals 0 run.journals
   pub logs : run.logs ≡ logs_of whole run.journals 1 whole.senders
   pub host_lines : run.host_lines ≡ host_lines_of whole run.journals host_start 1 whole.control
   pub marks : run.marks ≡ []

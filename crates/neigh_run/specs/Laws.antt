@@ -1,24 +1,37 @@
 -- The laws of runs and of their reports.
-use Rattle.std.specs.Prelude.{◌≡◌, ◌+◌, ◌<◌, ◌≤◌, true, false, List, length}
+use Rattle.std.specs.Prelude.{◌≡◌, ◌+◌, ◌<◌, ◌≤◌, true, false, List, [], ◌∷◌, map, length}
 use Rattle.std.specs.List.{list_any, AllByRecursion}
 use Rattle.nb_base.specs.declared.line.Line.{Line}
 use Rattle.nb_base.specs.declared.plan.Plan.{Plan}
 use Rattle.nb_base.specs.Name.{is_name}
 use Rattle.nb_base.specs.Params.{InRange}
+use Rattle.nb_journal.specs.Fold.{present_count}
 use Rattle.text_codes.specs.Lines.{is_set_in, rows_of}
 use Rattle.neigh_run.specs.declared.run.Run.{Run}
 use Rattle.neigh_run.specs.Merged.{packet_count, is_sending}
+use Rattle.change_order.specs.Orders.{HaveOneOrder}
+use Rattle.journal_counts.specs.Counts.{counts_of}
+use Rattle.neigh_run.specs.Seen.{sees}
+use Rattle.neigh_run.specs.Order.{IsInOrderOfCalls}
 use Rattle.neigh_run.specs.Inline.{IsInlineRun}
 use Rattle.neigh_run.specs.Fates.{HasOneFateEach, CountFates}
-use Rattle.neigh_run.specs.Report.{lines_below, line_words, sent_count, fast_count, dropped_count, waiting_count, report, report_text}
+use Rattle.neigh_run.specs.Report.{all_below, line_words, sent_count, fast_count, dropped_count, waiting_count, report, report_text}
+
+-- in a table of one bucket a line sees the number of entries present there
+abbrev pub OneBucketSeesItself : Type 0
+OneBucketSeesItself = (plan : Plan) (journal lines : List Line) → sees plan (journal ∷ []) 0 lines ≡ present_count plan.params lines
+
+-- the changing lines of an inline run, call by call, are one order of all changes, in which each line that looked has its place
+abbrev pub InlineRunsAreInOrder : Type 0
+InlineRunsAreInOrder = (plan : Plan) (run : Run) → IsInlineRun plan run → IsInOrderOfCalls plan run.journals
+
+-- so there is one order of all changes
+abbrev pub InlineRunsHaveOneOrder : Type 0
+InlineRunsHaveOneOrder = (plan : Plan) (run : Run) → IsInlineRun plan run → HaveOneOrder (map (counts_of plan.params) run.journals)
 
 -- a plan has at most one inline run
 abbrev pub InlineRunsAreOne : Type 0
 InlineRunsAreOne = (plan : Plan) (run other : Run) → InRange plan.params → IsInlineRun plan run → IsInlineRun plan other → run ≡ other
-
--- two inline runs of a plan with one text are one, as there is no second one
-abbrev pub TextsTellInlineRuns : Type 0
-TextsTellInlineRuns = (plan : Plan) (run other : Run) → InRange plan.params → IsInlineRun plan run → IsInlineRun plan other → report_text run ≡ report_text other → run ≡ other
 
 -- the host's device has a name, as every host of the type has one
 abbrev pub IsNamed : Run → Type 0
@@ -32,9 +45,9 @@ ReportsGiveTheirLinesBack = (run : Run) → IsNamed run → rows_of (report_text
 abbrev pub TextsTellReports : Type 0
 TextsTellReports = (run other : Run) → IsNamed run → IsNamed other → report_text run ≡ report_text other → report run ≡ report other
 
--- in a journal only what stands below a line begins with a space: its acts, or the entries that a look lists
+-- in a journal only what stands below a line begins with a space: what it saw, its acts, or the entries that `show` lists
 pub record OnlyBelowIsSetIn : Type 0 where
-  pub below : (plan : Plan) (past : List Line) (line : Line) → AllByRecursion (λ row. is_set_in row ≡ true) (lines_below plan past line line.op)
+  pub below : (plan : Plan) (past : List Line) (line : Line) → AllByRecursion (λ row. is_set_in row ≡ true) (all_below plan past line)
   pub line : (plan : Plan) (past : List Line) (line : Line) → is_set_in (line_words plan past line) ≡ false
 
 -- the packets of a plan's inline run that went out by journals, that went out fast (none does), that were dropped and that wait are together the packets of the plan, where participant 0 sends none itself

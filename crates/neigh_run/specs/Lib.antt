@@ -2,7 +2,9 @@ pub mod Spelling
 pub mod Frames
 pub mod Control
 pub mod Merged
+pub mod Seen
 pub mod Inline
+pub mod Order
 pub mod Fates
 pub mod Entries
 pub mod Report

@@ -1,5 +1,5 @@
 -- The operations of a plan, in the order in which an inline run enters them.
-use Rattle.std.specs.Prelude.{ℕ, ◌+◌, ◌*◌, Bool, true, false, nat_le, ◌==◌, if◌then◌else◌, List, [], ◌∷◌, ◌++◌, fold, filter, length, sum_by, Option, Some, None}
+use Rattle.std.specs.Prelude.{ℕ, ◌+◌, ◌*◌, Bool, true, false, nat_le, ◌==◌, if◌then◌else◌, List, [], ◌∷◌, ◌++◌, fold, filter, length, sum_by, Option}
 use Rattle.std.specs.Option.{option_map, option_map_or, option_to_list}
 use Rattle.nb_base.specs.declared.time.OpId.{OpId}
 use Rattle.nb_base.specs.declared.op.Op.{Op}
@@ -34,7 +34,7 @@ control_ops plan s n (item ∷ items) = option_to_list (control_op plan s n item
 -- the operations of a sender's packets, of which the first has this number
 abbrev pub sender_ops : ℕ → ℕ → List SendItem → List Entered
 sender_ops p n [] = []
-sender_ops p n (item ∷ items) = record { at = item.at; id = id_for p n; op = op.Send item.key } ∷ sender_ops p (n + 1) items
+sender_ops p n (item ∷ items) = record { at = item.at; id = id_for p n; op = op.Send item.key (length item.payload) } ∷ sender_ops p (n + 1) items
 
 -- the operations of all senders, of which the first has this number
 abbrev pub senders_ops : ℕ → List (List SendItem) → List Entered

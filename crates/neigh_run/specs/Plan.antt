@@ -1,7 +1,8 @@
 -- What a script asks of a run, and the plans that are replayed.
 use Rattle.std.specs.Prelude.{ℕ, zero, suc, ◌+◌, ◌≤◌, map, Bool, true, false, ◌&&◌, ◌==◌, nat_lt, if◌then◌else◌, List, [], ◌∷◌, flat_map, fold, length}
 use Rattle.std.specs.Option.{option_map_or}
-use Rattle.std.specs.List.{list_all}
+use Rattle.std.specs.Int.{IsInRange}
+use Rattle.std.specs.List.{list_all, AllByRecursion}
 use Rattle.nb_base.specs.declared.key.Key.{Key}
 use Rattle.nb_base.specs.declared.key.Key.TheVariants.{V4, V6}
 use Rattle.nb_base.specs.declared.op.Op.{Op}
@@ -114,18 +115,37 @@ pub record IsList (moments : List ℕ) : Type 0 where
   pub rises : RisesFrom 0 moments
   pub few : length moments ≤ 131_072
 
--- of each sender
-abbrev pub AreLists : List (List SendItem) → Type 0
-AreLists [] = Unit {0}
-AreLists (items ∷ senders) = IsList (map send_at items) × AreLists senders
+-- a packet has 1 to 1,500 bytes
+abbrev pub IsPayload : List ℕ → Type 0
+IsPayload payload = IsInRange 1 1_500 (length payload)
 
--- each participant's items are by moment and no more than a script has lines, and there are at most 16 senders
+abbrev pub IsPacket : SendItem → Type 0
+IsPacket item = IsPayload item.payload
+
+-- a sender's packets, in a list as that of any participant
+pub record IsSendList (items : List SendItem) : Type 0 where
+  pub list : IsList (map send_at items)
+  pub packets : AllByRecursion IsPacket items
+
+-- of each sender
+abbrev pub AreSendLists : List (List SendItem) → Type 0
+AreSendLists [] = Unit {0}
+AreSendLists (items ∷ senders) = IsSendList items × AreSendLists senders
+
+-- each participant's items are by moment and no more than a script has lines, there are at most 16 senders, and a packet has 1 to 1,500 bytes
 pub record IsWithinLimits (plan : Plan) : Type 0 where
   pub control : IsList (map control_at plan.control)
-  pub senders : AreLists plan.senders
+  pub senders : AreSendLists plan.senders
   pub few : length plan.senders ≤ 16
 
--- the items of a script are by moment and no more than it has lines, and there are at most 16 senders
+-- a line that sends has a payload of 1 to 1,500 bytes
+abbrev pub IsSentPacket : ScriptItem → Type 0
+IsSentPacket (item.Send at sender key payload) = IsPayload payload
+IsSentPacket (item.Neigh at o) = Unit {0}
+IsSentPacket (item.Proxy at key add) = Unit {0}
+
+-- the items of a script are by moment and no more than it has lines, there are at most 16 senders, and each payload has 1 to 1,500 bytes
 pub record IsScriptWithinLimits (script : Script) : Type 0 where
   pub items : IsList (map at_of script.items)
+  pub packets : AllByRecursion IsSentPacket script.items
   pub few : script.senders ≤ 16

@@ -1,5 +1,5 @@
 -- The text of a run: lines of words, in ten parts.
-use Rattle.std.specs.Prelude.{ℕ, ◌+◌, ◌∷◌, Bool, true, false, List, [], ◌++◌, map, filter, length, Option, Some, None, codes, decimal}
+use Rattle.std.specs.Prelude.{ℕ, ◌+◌, ◌∷◌, Bool, true, false, nat_le, if◌then◌else◌, List, [], ◌++◌, map, filter, length, Option, Some, None, codes, decimal}
 use Rattle.std.specs.List.{flat_map}
 use Rattle.nb_base.specs.declared.key.Key.{Key}
 use Rattle.nb_base.specs.declared.time.OpId.{OpId}
@@ -53,10 +53,19 @@ act_line plan key a = set_in (act_words plan key a)
 abbrev pub key_lines : Plan → List Line → Line → Key → List Words
 key_lines plan past line key = map (act_line plan key) (acts_of plan.params past line key)
 
--- a look lists the entries; every other line has its acts, over the keys that are known behind it, by rank
+-- `show` lists the entries; every other line has its acts, over the keys that are known behind it, by rank
 abbrev pub lines_below : Plan → List Line → Line → Op → List Words
 lines_below plan past line op.Show = map (λ words. set_in (codes "entry" ∷ words)) (entries_after plan.host plan.params past)
 lines_below plan past line _ = flat_map (key_lines plan past line) (known_keys (past ++ line ∷ []))
+
+-- what a line saw of the whole table, set in, where the table has two or more buckets; of one bucket it is the number present there
+abbrev pub seen_lines : ℕ → Option ℕ → List Words
+seen_lines buckets None = []
+seen_lines buckets (Some seen) = if nat_le 2 buckets then set_in (codes "seen" ∷ decimal seen ∷ []) ∷ [] else []
+
+-- all that stands below a line: what it saw, and then its acts or its entries
+abbrev pub all_below : Plan → List Line → Line → List Words
+all_below plan past line = seen_lines plan.buckets line.seen ++ lines_below plan past line line.op
 
 -- `PLACE MOMENT ID OP -> REPLY`
 abbrev pub line_words : Plan → List Line → Line → Words
@@ -65,7 +74,7 @@ line_words plan past line = decimal (length past) ∷ decimal line.at ∷ id_wor
 -- the lines of a journal behind the past, each with what stands below it
 abbrev pub journal_lines : Plan → List Line → List Line → List Words
 journal_lines plan past [] = []
-journal_lines plan past (line ∷ lines) = (line_words plan past line ∷ lines_below plan past line line.op) ++ journal_lines plan (past ++ line ∷ []) lines
+journal_lines plan past (line ∷ lines) = (line_words plan past line ∷ all_below plan past line) ++ journal_lines plan (past ++ line ∷ []) lines
 
 -- the buckets from b on
 abbrev pub bucket_lines : Plan → ℕ → List (List Line) → List Words

@@ -1,5 +1,5 @@
 -- How a report spells the parts of its lines.
-use Rattle.std.specs.Prelude.{ℕ, Bool, if◌then◌else◌, List, [], ◌∷◌, ◌++◌, Option, Some, None, codes, decimal}
+use Rattle.std.specs.Prelude.{ℕ, Bool, ◌==◌, if◌then◌else◌, List, [], ◌∷◌, ◌++◌, Option, Some, None, codes, decimal}
 use Rattle.nb_base.specs.declared.mac.Mac.{Mac}
 use Rattle.nb_base.specs.declared.key.Key.TheVariants.{V6}
 use Rattle.nb_base.specs.declared.host.Host.{Host}
@@ -73,7 +73,7 @@ abbrev pub flag : Bool → ℕ → ℕ
 flag set letter = if set then letter else 45
 
 abbrev pub op_words : Op → Words
-op_words (op.Send key) = codes "send" ∷ key_text key ∷ []
+op_words (op.Send key len) = codes "send" ∷ key_text key ∷ []
 op_words (op.Arp key mac make solicited) = codes "arp" ∷ key_text key ∷ mac_text mac ∷ (if make then codes "make" else codes "keep") ∷ (if solicited then codes "reachable" else codes "stale") ∷ []
 op_words (op.Ns key mac) = codes "ns" ∷ key_text key ∷ mac_text mac ∷ []
 op_words (op.Na key mac router solicited overrides) = codes "na" ∷ key_text key ∷ mac_word mac ∷ (flag router 114 ∷ flag solicited 115 ∷ flag overrides 111 ∷ []) ∷ []
@@ -96,9 +96,9 @@ abbrev pub id_word : Option OpId → List ℕ
 id_word None = dash
 id_word (Some id) = id_text id
 
-abbrev pub dropping_words : Option OpId → Words
-dropping_words None = []
-dropping_words (Some id) = codes "dropping" ∷ id_text id ∷ []
+-- how many packets were dropped for the one that waits, where any were
+abbrev pub dropping_words : ℕ → Words
+dropping_words dropped = if dropped == 0 then [] else codes "dropping" ∷ decimal dropped ∷ []
 
 abbrev pub reply_words : Reply → Words
 reply_words reply.Sent = codes "sent" ∷ []

@@ -1,14 +1,26 @@
-//! The laws of runs and of their reports. Each function does nothing: its contract is the law.
-ghost use Rattle.neigh_run.specs.Laws.{InlineRunsAreOne, TextsTellInlineRuns, ReportsGiveTheirLinesBack, TextsTellReports, OnlyBelowIsSetIn, FatesAddUpInline, EachPacketHasOneFate, FatesAreCounted};
+//! The laws of runs and of their reports. Each function does nothing, or hands on a law from below: its contract is the law.
+ghost use Rattle.neigh_run.specs.Laws.{OneBucketSeesItself, InlineRunsAreInOrder, InlineRunsHaveOneOrder, InlineRunsAreOne, ReportsGiveTheirLinesBack, TextsTellReports, OnlyBelowIsSetIn, FatesAddUpInline, EachPacketHasOneFate, FatesAreCounted};
 
-/// A plan has at most one inline run: its operations, in their order, force every journal line, every reply and every outcome.
-pub fn inline_runs_are_one()
-    ensures { InlineRunsAreOne }
+use change_order::calls_give_one_order;
+
+/// A line that looks sees, in a table of one bucket, the number of entries present there.
+pub fn one_bucket_sees_itself()
+    ensures { OneBucketSeesItself }
 {}
 
-/// Two inline runs of a plan that have the same text are one.
-pub fn texts_tell_inline_runs()
-    ensures { TextsTellInlineRuns }
+/// In an inline run all changes of all buckets stand in one order, call by call, and what a line saw is the sum of the numbers present
+/// behind the changes that stand before the line and its collect lines.
+pub fn inline_runs_have_one_order()
+    ensures order { InlineRunsAreInOrder }
+    ensures one { InlineRunsHaveOneOrder }
+{
+    calls_give_one_order();
+}
+
+/// A plan has at most one inline run, with any number of buckets: its operations, in their order, force every journal line, what each
+/// line saw of the whole table, every reply and every outcome.
+pub fn inline_runs_are_one()
+    ensures { InlineRunsAreOne }
 {}
 
 /// The text of a report gives its lines back: no word of a report holds a space or an LF, so splitting at them undoes joining.
@@ -18,7 +30,7 @@ pub fn reports_give_their_lines_back()
     ensures one { TextsTellReports }
 {}
 
-/// In a journal only what stands below a line begins with a space, so a reader tells each line from its acts.
+/// In a journal only what stands below a line begins with a space, so a reader tells each line from what it saw and from its acts.
 pub fn only_what_stands_below_is_set_in()
     ensures { OnlyBelowIsSetIn }
 {}
