@@ -5,9 +5,8 @@ use Rattle.std.proofs.lemmas.Bool.{le-ltb}
 use Rattle.std.proofs.lemmas.List.{take_more, take-append-drop, map-append, length-append}
 use Rattle.nb_base.specs.declared.key.Key.{Key}
 use Rattle.nb_base.specs.declared.line.Line.{Line}
-use Rattle.nb_journal.specs.Keys.{key_of}
+use Rattle.nb_journal.specs.Keys.{key_of, has_key}
 use Rattle.nb_journal.specs.Fold.{with_key}
-use Rattle.nb_journal.specs.Evaluated.{has_key}
 use Rattle.neigh_run.specs.Merged.{Entered}
 use Rattle.neigh_run.specs.Inline.{entered_line}
 use Rattle.neigh_run.specs.Plan.{keys_named}

@@ -4,7 +4,7 @@ use Rattle.std.specs.Prelude.{nat_le, fold}
 use Rattle.std.proofs.lemmas.Bool.{le-leb}
 use Rattle.std.proofs.lemmas.List.Sums.{fold-append}
 use Rattle.nb_base.specs.declared.line.Line.{Line}
-use Rattle.nb_journal.proofs.Decides.{le_from}
+use Rattle.nb_journal.proofs.Tests.{le_from}
 use Rattle.neigh_run.specs.Merged.{Entered, insert, by_moment}
 use Rattle.neigh_run.specs.Plan.{RisesFrom}
 use Rattle.neigh_plan.specs.Merging.{line_of, lines_of, line_at, insert_line, insert_lines, AreByMoment}

@@ -1,8 +1,8 @@
 -- What the order by moment keeps of operations: their number, their moments, and the order of those that pass a test.
-use Rattle.std.proofs.Common.{◌≡◌, ⊎_elim, ℕ, ◌+◌, ◌<◌, ◌≤◌, Bool, true, false, if◌then◌else◌, List, [], ◌∷◌, ◌++◌, length, map, refl, sym, ◌∙◌, ap, subst, arith}
-use Rattle.std.specs.Prelude.{filter, nat_le, fold}
+use Rattle.std.proofs.Common.{◌≡◌, ⊎_elim, ℕ, ◌+◌, ◌<◌, ◌≤◌, Bool, true, false, if◌then◌else◌, List, [], ◌∷◌, length, map, refl, sym, ◌∙◌, ap, subst, arith}
+use Rattle.std.specs.Prelude.{filter, nat_le}
 use Rattle.std.proofs.lemmas.Bool.{lt-leb, cases_lt, true≢false}
-use Rattle.nb_journal.proofs.Decides.{le_from, le_to}
+use Rattle.nb_journal.proofs.Tests.{le_from, le_to}
 use Rattle.neigh_run.specs.Merged.{Entered, insert, by_moment}
 use Rattle.neigh_run.specs.Inline.{entered_line}
 use Rattle.neigh_run.specs.Plan.{RisesFrom}

@@ -8,7 +8,7 @@ use Rattle.nb_base.specs.declared.plan.SendItem.{SendItem}
 use Rattle.nb_base.specs.declared.plan.ControlItem.{ControlItem}
 use Rattle.neigh_run.specs.Control.{HostState, host_start, turn}
 use Rattle.neigh_run.specs.Merged.{Entered, control_ops, sender_ops, senders_ops, by_moment, merged}
-use Rattle.neigh_run.specs.Plan.{RisesFrom, send_at, control_at, AreLists, IsWithinLimits}
+use Rattle.neigh_run.specs.Plan.{RisesFrom, send_at, control_at, AreSendLists, IsWithinLimits}
 use Rattle.neigh_plan.specs.Merging.{lines_of, AreByMoment}
 use Rattle.neigh_plan.proofs.Planned.{rises-lower}
 use Rattle.neigh_plan.proofs.Orders.{Each, each_all, count, count_all, rises_all, filter_all, entered_at, by_moment-sorted, line_moments}
@@ -25,10 +25,10 @@ rises_sender : (p n m : ℕ) (items : List SendItem) → RisesFrom m (map send_a
 rises_sender p n m [] h = tt
 rises_sender p n m (x ∷ xs) h = (h.0, rises_sender p (n + 1) x.at xs h.1)
 
-owns_merged : (operations : List Entered) (p : ℕ) (senders : List (List SendItem)) → AreLists senders → Owns operations p senders → Owns (by_moment operations) p senders
+owns_merged : (operations : List Entered) (p : ℕ) (senders : List (List SendItem)) → AreSendLists senders → Owns operations p senders → Owns (by_moment operations) p senders
 owns_merged operations p [] lists owns = tt
 owns_merged operations p (items ∷ rest) lists owns = (
-  filter_all (is_by p) [] operations tt ∙ ap by_moment owns.0 ∙ by_moment-sorted (sender_ops p 1 items) (rises_sender p 1 0 items lists.0.rises),
+  filter_all (is_by p) [] operations tt ∙ ap by_moment owns.0 ∙ by_moment-sorted (sender_ops p 1 items) (rises_sender p 1 0 items lists.0.list.rises),
   owns_merged operations (p + 1) rest lists.1 owns.1,
 )
 

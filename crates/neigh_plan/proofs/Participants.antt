@@ -1,6 +1,7 @@
 -- The lines of each participant, one item after the other, and of all participants, one after the other.
 use Rattle.std.proofs.Common.{◌≡◌, ℕ, zero, suc, ◌+◌, ◌*◌, ◌<◌, ◌≤◌, List, [], ◌∷◌, ◌++◌, length, map, take, get_or, Option, Some, None, refl, sym, ◌∙◌, ap, subst, arith, append_assoc, append-nil}
 use Rattle.std.specs.Option.{option_to_list}
+use Rattle.std.specs.List.{AllByRecursion}
 use Rattle.std.proofs.lemmas.List.{take_more, length-take-le, length-append, length-map, map-append}
 use Rattle.std.proofs.Math.Seq.{take-length}
 use Rattle.nb_base.specs.declared.plan.Plan.{Plan}
@@ -11,30 +12,30 @@ use Rattle.nb_base.specs.declared.plan.SendItem.{SendItem}
 use Rattle.nb_base.specs.declared.plan.ControlItem.{ControlItem}
 use Rattle.neigh_run.specs.Control.{HostState, host_start, turn, state_behind}
 use Rattle.neigh_run.specs.Merged.{Entered, id_for, control_op, control_ops, sender_ops, senders_ops, merged}
-use Rattle.neigh_run.specs.Plan.{RisesFrom, IsList, AreLists, IsWithinLimits, send_at, control_at}
+use Rattle.neigh_run.specs.Plan.{RisesFrom, IsPacket, IsSendList, AreSendLists, IsWithinLimits, send_at, control_at}
 use Rattle.neigh_plan.specs.Merging.{line_of, lines_of, line_at, insert_lines}
 use Rattle.neigh_run.proofs.Numbers.{own_op}
 use Rattle.neigh_plan.proofs.Planned.{rises-lower}
 use Rattle.neigh_plan.proofs.Orders.{length_all}
 use Rattle.neigh_plan.proofs.Merges.{insert_lines-append, insert_lines-sorted, lines_of-by_moment}
 
-sender_snoc : (p n : ℕ) (items : List SendItem) (x : SendItem) → sender_ops p n (items ++ x ∷ []) ≡ sender_ops p n items ++ record { at = x.at; id = id_for p (n + length items); op = op.Send x.key } ∷ []
+sender_snoc : (p n : ℕ) (items : List SendItem) (x : SendItem) → sender_ops p n (items ++ x ∷ []) ≡ sender_ops p n items ++ record { at = x.at; id = id_for p (n + length items); op = op.Send x.key (length x.payload) } ∷ []
 sender_snoc p n [] x = let same : n + 0 ≡ n = omega arith in rw same refl
 sender_snoc p n (y ∷ ys) x =
     let next : n + suc (length ys) ≡ n + 1 + length ys = omega arith in
-    rw next (ap (λ (zs : List Entered). record { at = y.at; id = id_for p n; op = op.Send y.key } ∷ zs) (sender_snoc p (n + 1) ys x))
+    rw next (ap (λ (zs : List Entered). record { at = y.at; id = id_for p n; op = op.Send y.key (length y.payload) } ∷ zs) (sender_snoc p (n + 1) ys x))
 
 -- one packet more
 pub sender_ops_more : (p : ℕ) (items : List SendItem) (i : ℕ) (x : SendItem) → i < length items → x ≡ get_or items i x
-    → lines_of (sender_ops p 1 (take (i + 1) items)) ≡ lines_of (sender_ops p 1 (take i items)) ++ line_of (record { at = x.at; id = id_for p (i + 1); op = op.Send x.key }) ∷ []
+    → lines_of (sender_ops p 1 (take (i + 1) items)) ≡ lines_of (sender_ops p 1 (take i items)) ++ line_of (record { at = x.at; id = id_for p (i + 1); op = op.Send x.key (length x.payload) }) ∷ []
 sender_ops_more p items i x lt at =
     let long = length-take-le i items (omega (arith, lt)) in
     let number : 1 + length (take i items) ≡ i + 1 = omega (arith, long) in
     ap (λ (xs : List SendItem). lines_of (sender_ops p 1 xs)) (take_more items i x lt)
     ∙ ap (λ (y : SendItem). lines_of (sender_ops p 1 (take i items ++ y ∷ []))) (sym at)
     ∙ ap lines_of (sender_snoc p 1 (take i items) x)
-    ∙ map-append line_of (sender_ops p 1 (take i items)) (record { at = x.at; id = id_for p (1 + length (take i items)); op = op.Send x.key } ∷ [])
-    ∙ ap (λ (n : ℕ). lines_of (sender_ops p 1 (take i items)) ++ line_of (record { at = x.at; id = id_for p n; op = op.Send x.key }) ∷ []) number
+    ∙ map-append line_of (sender_ops p 1 (take i items)) (record { at = x.at; id = id_for p (1 + length (take i items)); op = op.Send x.key (length x.payload) } ∷ [])
+    ∙ ap (λ (n : ℕ). lines_of (sender_ops p 1 (take i items)) ++ line_of (record { at = x.at; id = id_for p n; op = op.Send x.key (length x.payload) }) ∷ []) number
 
 control_snoc : (plan : Plan) (s : HostState) (n : ℕ) (items : List ControlItem) (x : ControlItem)
     → control_ops plan s n (items ++ x ∷ []) ≡ control_ops plan s n items ++ option_to_list (control_op plan (state_behind plan s n items) (n + length items) x)
@@ -75,10 +76,16 @@ rises_control_lines plan s n m (x ∷ xs) h = by_op (turn plan s n x).operation 
   by_op (Some o) rest = (h.0, rest)
 
 -- what holds of each sender's list holds of the one at a place
-pub list_at : (senders : List (List SendItem)) (i : ℕ) (items : List SendItem) → AreLists senders → i < length senders → items ≡ get_or senders i items → IsList (map send_at items)
+pub list_at : (senders : List (List SendItem)) (i : ℕ) (items : List SendItem) → AreSendLists senders → i < length senders → items ≡ get_or senders i items → IsSendList items
 list_at [] i items h lt at = absurd (omega (arith, lt))
-list_at (x ∷ xs) zero items h lt at = subst (λ (ys : List SendItem). IsList (map send_at ys)) (sym at) h.0
+list_at (x ∷ xs) zero items h lt at = subst IsSendList (sym at) h.0
 list_at (x ∷ xs) (suc i) items h lt at = list_at xs i items h.1 (omega (arith, lt)) at
+
+-- and what holds of each packet
+pub packet_at : (items : List SendItem) (i : ℕ) (x : SendItem) → AllByRecursion IsPacket items → i < length items → x ≡ get_or items i x → IsPacket x
+packet_at [] i x h lt at = absurd (omega (arith, lt))
+packet_at (y ∷ ys) zero x h lt at = subst IsPacket (sym at) h.0
+packet_at (y ∷ ys) (suc i) x h lt at = packet_at ys i x h.1 (omega (arith, lt)) at
 
 -- ---- the participants one after the other
 
@@ -142,10 +149,10 @@ pub sender_long : (p n : ℕ) (items : List SendItem) → length (sender_ops p n
 sender_long p n [] = refl
 sender_long p n (x ∷ xs) = let rest = sender_long p (n + 1) xs in omega (arith, rest)
 
-senders_long : (p : ℕ) (senders : List (List SendItem)) → AreLists senders → length (senders_ops p senders) ≤ 131_072 * length senders
+senders_long : (p : ℕ) (senders : List (List SendItem)) → AreSendLists senders → length (senders_ops p senders) ≤ 131_072 * length senders
 senders_long p [] lists = omega arith
 senders_long p (items ∷ senders) lists =
-    let few = lists.0.few in
+    let few = lists.0.list.few in
     let moments = length-map items send_at in
     let own = sender_long p 1 items in
     let rest = senders_long (p + 1) senders lists.1 in

@@ -1,12 +1,13 @@
 -- The plan of a script: one sender more, and the limits that a script keeps.
 use Rattle.std.proofs.Common.{◌≡◌, ℕ, zero, suc, ◌+◌, ◌≤◌, Bool, true, false, if◌then◌else◌, List, [], ◌∷◌, ◌++◌, map, length, refl, sym, ◌∙◌, ap, arith}
 use Rattle.std.specs.Prelude.{◌==◌}
+use Rattle.std.specs.List.{AllByRecursion}
 use Rattle.nb_base.specs.declared.plan.SendItem.{SendItem}
 use Rattle.neigh_script.specs.declared.script.Script.{Script}
 use Rattle.neigh_script.specs.declared.script.ScriptItem.{ScriptItem}
 use Rattle.neigh_script.specs.declared.script.ScriptItem.TheVariants as item
 use Rattle.neigh_script.specs.Context.{at_of}
-use Rattle.neigh_run.specs.Plan.{control_items, sends_of, senders_from, plan_of, RisesFrom, control_at, send_at, IsList, AreLists, IsWithinLimits, IsScriptWithinLimits}
+use Rattle.neigh_run.specs.Plan.{control_items, sends_of, senders_from, plan_of, RisesFrom, control_at, send_at, IsList, IsPacket, IsSentPacket, AreSendLists, IsWithinLimits, IsScriptWithinLimits}
 
 next_sender : (k n : ℕ) (items : List ScriptItem) → senders_from k (suc n) items ≡ senders_from k n items ++ sends_of (k + n) items ∷ []
 next_sender k zero items = let same : k + 0 ≡ k = omega arith in rw same refl
@@ -56,12 +57,21 @@ few_sends k (item.Send at sender key payload ∷ items) = by_test (sender == k) 
   by_test true rest = omega (arith, rest)
   by_test false rest = omega (arith, rest)
 
-are_lists : (k n : ℕ) (items : List ScriptItem) → IsList (map at_of items) → AreLists (senders_from k n items)
-are_lists k zero items h = tt
-are_lists k (suc n) items h =
+sent_packets : (k : ℕ) (items : List ScriptItem) → AllByRecursion IsSentPacket items → AllByRecursion IsPacket (sends_of k items)
+sent_packets k [] h = tt
+sent_packets k (item.Neigh at o ∷ items) h = sent_packets k items h.1
+sent_packets k (item.Proxy at key add ∷ items) h = sent_packets k items h.1
+sent_packets k (item.Send at sender key payload ∷ items) h = by_test (sender == k) (sent_packets k items h.1) where
+  by_test : (b : Bool) → AllByRecursion IsPacket (sends_of k items) → AllByRecursion IsPacket ((if b then record { at = at; key = key; payload = payload } ∷ [] else []) ++ sends_of k items)
+  by_test true rest = (h.0, rest)
+  by_test false rest = rest
+
+are_lists : (k n : ℕ) (items : List ScriptItem) → IsList (map at_of items) → AllByRecursion IsSentPacket items → AreSendLists (senders_from k n items)
+are_lists k zero items h packets = tt
+are_lists k (suc n) items h packets =
     let few = h.few in
     let fewer = few_sends k items in
-    (record { rises = rises_sends k 0 items h.rises; few = omega (arith, few, fewer) }, are_lists (k + 1) n items h)
+    (record { list = record { rises = rises_sends k 0 items h.rises; few = omega (arith, few, fewer) }; packets = sent_packets k items packets }, are_lists (k + 1) n items h packets)
 
 many : (k n : ℕ) (items : List ScriptItem) → length (senders_from k n items) ≡ n
 many k zero items = refl
@@ -75,6 +85,6 @@ within_limits script window buckets h =
     let fewer = few_control script.items in
     record {
       control = record { rises = rises_control 0 script.items h.items.rises; few = omega (arith, few, fewer) };
-      senders = are_lists 1 script.senders script.items h.items;
+      senders = are_lists 1 script.senders script.items h.items h.packets;
       few = rw (many 1 script.senders script.items) h.few;
     }

@@ -3,8 +3,7 @@ use Rattle.std.specs.Prelude.{ℕ, Bool, ◌&&◌, not, max, List, [], ◌∷◌
 use Rattle.std.specs.List.{list_all}
 use Rattle.nb_base.specs.declared.op.Op.{Op}
 use Rattle.nb_base.specs.declared.plan.Plan.{Plan}
-use Rattle.nb_journal.specs.Keys.{is_own, is_send}
-use Rattle.nb_journal.specs.Evaluated.{gives_settable}
+use Rattle.nb_journal.specs.Keys.{is_own, is_send, may_be_asked}
 use Rattle.nb_journal.specs.Accounts.{line_bound}
 use Rattle.neigh_run.specs.Control.{host_start}
 use Rattle.neigh_run.specs.Merged.{control_ops, merged}
@@ -27,9 +26,9 @@ moments_of plan = map control_at plan.control ++ flat_map (map send_at) plan.sen
 unfoldable pub last_item_at : Plan → ℕ
 last_item_at plan = greatest_of (moments_of plan)
 
--- an operation that participant 0 may have: no packet, none of the bucket's own, and it gives only states that may be given by hand
+-- an operation that participant 0 may have: no packet, none of the bucket's own, and one that may be asked for
 abbrev pub is_given_op : Op → Bool
-is_given_op o = is_own o && (not (is_send o) && gives_settable o)
+is_given_op o = is_own o && (not (is_send o) && may_be_asked o)
 
 -- and each of participant 0 is such a one
 unfoldable pub has_given_ops : Plan → Bool

@@ -5,9 +5,9 @@ use Rattle.neigh_run.specs.Merged.{Entered}
 use Rattle.neigh_run.specs.Inline.{entered_line}
 use Rattle.neigh_run.specs.Plan.{RisesFrom}
 
--- an operation's line where no entry is in its way
+-- an operation's line as it is before anything is known of the table
 abbrev pub line_of : Entered → Line
-line_of x = record { at = x.at; id = Some x.id; op = x.op; full = None }
+line_of x = record { at = x.at; id = Some x.id; op = x.op; seen = None; full = None }
 
 abbrev pub lines_of : List Entered → List Line
 lines_of operations = map line_of operations

@@ -2,10 +2,12 @@
 ghost use Rattle.std.specs.Prelude.{◌≡◌, ℕ, ◌+◌, ◌<◌, ◌≤◌, ◌^◌, [], ◌∷◌, ◌++◌, map, length, IfOk, OnOk, IfSome, MatchOption, nat_le};
 ghost use Rattle.neigh_run.specs.Control.{HostState, host_start};
 ghost use Rattle.neigh_run.specs.Merged.{id_for, control_op, control_ops, sender_ops, merged};
-ghost use Rattle.neigh_run.specs.Plan.{IsList, IsWithinLimits, control_at, send_at};
+ghost use Rattle.neigh_run.specs.Plan.{IsSendList, IsPacket, IsWithinLimits, control_at};
+ghost use Rattle.nb_base.specs.declared.op.Op.TheVariants as op;
 ghost use Rattle.neigh_plan.specs.Merging as merging;
 ghost use Rattle.neigh_plan.specs.Merging.{lines_of, insert_lines, AreByMoment};
 ghost use Rattle.std.specs.Option.{option_to_list};
+ghost use Rattle.std.specs.List.{AllByRecursion};
 
 use nb_base::{ControlItem, Items, Line, Moment, Op, OpId, Plan, SendItem};
 use std::alloc::{AllocError, Global};
@@ -91,11 +93,23 @@ fn line_of(at: Moment, id: OpId, op: Op) -> Line
         at,
         id: Some(id),
         op,
+        seen: None,
         full: None,
     }
 }
 
-#[tactic(auto, using(crate::proofs::Participants::sender_ops_more))]
+/// The operation that sends a packet.
+fn sending(item: &SendItem) -> Op
+    requires { IsPacket item.now }
+    ensures { result ≡ op.Send item.now.key (length item.now.payload) }
+{
+    Op::Send {
+        key: item.key,
+        len: item.payload.len() as u32,
+    }
+}
+
+#[tactic(auto, using(crate::proofs::Participants::sender_ops_more, crate::proofs::Participants::packet_at))]
 fn sender_lines(
     alloc: Global,
     participant: u32,
@@ -103,15 +117,12 @@ fn sender_lines(
 ) -> Result<Items<Line>, AllocError>
     requires participant { participant ≤ 16 }
     requires few { length items.now ≤ 131072 }
+    requires packets { AllByRecursion IsPacket items.now }
     ensures { IfOk result (λ lines. lines ≡ lines_of (sender_ops participant 1 items.now)) }
 {
     let mut lines = Items::new(alloc);
     for (place, item) in items.iter().enumerate() {
-        lines.push(line_of(
-            item.at,
-            id_of(participant, place),
-            Op::Send { key: item.key },
-        ))?;
+        lines.push(line_of(item.at, id_of(participant, place), sending(item)))?;
     }
     Ok(lines)
 }
@@ -152,14 +163,15 @@ fn merge_sender(
     items: &Items<SendItem>,
 ) -> Result<Items<Line>, AllocError>
     requires participant { participant ≤ 16 }
-    requires list { IsList (map send_at items.now) }
+    requires list { IsSendList items.now }
     ensures { IfOk result (λ merged. merged ≡ insert_lines lines.now (lines_of (sender_ops participant 1 items.now))) }
 {
     let own = sender_lines(alloc, participant, items.as_slice())?;
     merge(alloc, lines.as_slice(), own.as_slice())
 }
 
-/// The operations of a plan in merged order: by moment, and at equal moments participant 0's first, then the senders' by number.
+/// The operations of a plan in merged order: by moment, and at equal moments participant 0's first, then the senders' by number. A sender's
+/// operation carries its packet's length, 1 to 1,500 bytes.
 /// It goes over the lines so far once for each sender.
 #[tactic(auto, using(crate::proofs::Participants::list_at, crate::proofs::Participants::merged_more, crate::proofs::Participants::merged_first, crate::proofs::Participants::merged_last, crate::proofs::Participants::merged_short))]
 pub fn merged_lines(alloc: Global, plan: &Plan) -> Result<Items<Line>, AllocError>

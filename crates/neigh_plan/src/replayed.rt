@@ -1,7 +1,6 @@
 //! Whether a plan is replayed.
 ghost use Rattle.std.specs.Prelude.{◌≡◌, ◌++◌, Option, length, nat_lt, IfOk, OnOk};
 ghost use Rattle.std.specs.List.{list_all};
-ghost use Rattle.nb_journal.specs.Evaluated as among;
 ghost use Rattle.nb_journal.specs.Fold.{with_key};
 ghost use Rattle.nb_journal.specs.Keys as keys_of;
 ghost use Rattle.neigh_run.specs.Plan as of;
@@ -69,7 +68,7 @@ fn all_packets_go_to_ip4(senders: &[Items<SendItem>]) -> bool
 }
 
 fn has_key(keys: &[Key], key: &Key) -> bool
-    ensures { result ≡ among.has_key keys.now key.now }
+    ensures { result ≡ keys_of.has_key keys.now key.now }
 {
     keys.iter().any(|other| is_key(other, key))
 }
