@@ -16,10 +16,11 @@ use Rattle.nb_base.specs.declared.time.OpId.{OpId}
 use Rattle.nb_base.specs.declared.host.Host.{Host}
 use Rattle.nb_base.specs.declared.plan.Plan.{Plan}
 use Rattle.nud_machine.specs.State.{State}
-use Rattle.nb_journal.specs.Evaluated.{state_in, IsStep}
+use Rattle.nud_machine.specs.Laws.{ids_of}
+use Rattle.nb_journal.specs.Steps.{state_in, IsStep}
 use Rattle.nb_journal.specs.Fold.{state_of, known_keys, present_count}
 use Rattle.text_codes.specs.Lines.{Words, line_text, text_of}
-use Rattle.neigh_run.specs.Report.{lines_below, line_words, journal_lines, bucket_lines, journal_acts, counted}
+use Rattle.neigh_run.specs.Report.{all_below, line_words, journal_lines, bucket_lines, journal_acts, counted}
 use Rattle.neigh_run.specs.Entries.{entry_if_present, entries_after, entry_words}
 use Rattle.journal_fold.specs.Taken.{Taken}
 use Rattle.nb_journal.specs.declared.kept.Kept.{Kept}
@@ -36,21 +37,21 @@ pub on_ok : {X E : Type 0} (r : Result X E) (P : Type 0) → P → OnOk r P
 on_ok (Ok x) P h = h
 on_ok (Err e) P h = tt {0}
 
-pub lines_more : (plan : Plan) (past xs : List Line) (x : Line) → journal_lines plan past (xs ++ x ∷ []) ≡ journal_lines plan past xs ++ (line_words plan (past ++ xs) x ∷ lines_below plan (past ++ xs) x x.op)
-lines_more plan past [] x = append-nil (line_words plan past x ∷ lines_below plan past x x.op) ∙ ap (λ (l : List Line). line_words plan l x ∷ lines_below plan l x x.op) (sym (append-nil past))
+pub lines_more : (plan : Plan) (past xs : List Line) (x : Line) → journal_lines plan past (xs ++ x ∷ []) ≡ journal_lines plan past xs ++ (line_words plan (past ++ xs) x ∷ all_below plan (past ++ xs) x)
+lines_more plan past [] x = append-nil (line_words plan past x ∷ all_below plan past x) ∙ ap (λ (l : List Line). line_words plan l x ∷ all_below plan l x) (sym (append-nil past))
 lines_more plan past (y ∷ xs) x =
-    let own = line_words plan past y ∷ lines_below plan past y y.op in
+    let own = line_words plan past y ∷ all_below plan past y in
     ap (λ (more : List Words). own ++ more) (lines_more plan (past ++ y ∷ []) xs x)
-    ∙ sym (append_assoc own (journal_lines plan (past ++ y ∷ []) xs) (line_words plan ((past ++ y ∷ []) ++ xs) x ∷ lines_below plan ((past ++ y ∷ []) ++ xs) x x.op))
-    ∙ ap (λ (l : List Line). (own ++ journal_lines plan (past ++ y ∷ []) xs) ++ (line_words plan l x ∷ lines_below plan l x x.op)) (append_assoc past (y ∷ []) xs)
+    ∙ sym (append_assoc own (journal_lines plan (past ++ y ∷ []) xs) (line_words plan ((past ++ y ∷ []) ++ xs) x ∷ all_below plan ((past ++ y ∷ []) ++ xs) x))
+    ∙ ap (λ (l : List Line). (own ++ journal_lines plan (past ++ y ∷ []) xs) ++ (line_words plan l x ∷ all_below plan l x)) (append_assoc past (y ∷ []) xs)
 
 -- what was written so far, and one line more
-pub written_more : (plan : Plan) (xs : List Line) (x : Line) (report written more : List ℕ) → written ≡ report ++ text_of (journal_lines plan [] xs) → more ≡ written ++ text_of (line_words plan xs x ∷ lines_below plan xs x x.op)
+pub written_more : (plan : Plan) (xs : List Line) (x : Line) (report written more : List ℕ) → written ≡ report ++ text_of (journal_lines plan [] xs) → more ≡ written ++ text_of (line_words plan xs x ∷ all_below plan xs x)
     → more ≡ report ++ text_of (journal_lines plan [] (xs ++ x ∷ []))
 written_more plan xs x report written more e one =
-    one ∙ ap (λ (bytes : List ℕ). bytes ++ text_of (line_words plan xs x ∷ lines_below plan xs x x.op)) e
-    ∙ append_assoc report (text_of (journal_lines plan [] xs)) (text_of (line_words plan xs x ∷ lines_below plan xs x x.op))
-    ∙ ap (λ (bytes : List ℕ). report ++ bytes) (sym (flat_map-append line_text (journal_lines plan [] xs) (line_words plan xs x ∷ lines_below plan xs x x.op)) ∙ ap text_of (sym (lines_more plan [] xs x)))
+    one ∙ ap (λ (bytes : List ℕ). bytes ++ text_of (line_words plan xs x ∷ all_below plan xs x)) e
+    ∙ append_assoc report (text_of (journal_lines plan [] xs)) (text_of (line_words plan xs x ∷ all_below plan xs x))
+    ∙ ap (λ (bytes : List ℕ). report ++ bytes) (sym (flat_map-append line_text (journal_lines plan [] xs) (line_words plan xs x ∷ all_below plan xs x)) ∙ ap text_of (sym (lines_more plan [] xs x)))
 
 pub on_ok_if : {X E A : Type 0} (r : Result X E) (new joined before : A) (Q : Type 0) → new ≡ (if is_ok r then joined else before) → (new ≡ joined → Q) → OnOk r Q
 on_ok_if (Ok x) new joined before Q h f = f h
@@ -94,14 +95,14 @@ unfolding present_count
 present_are host p lines = present_rows host (state_of p lines) (known_keys lines)
 
 -- the packets that wait for the entries of known keys
-pub waits_are : (f : Key → State) (keys : List Key) (kept : List Kept) → map state_in kept ≡ map f keys → waiting_for kept ≡ flat_map (λ (key : Key). (f key).waiting) keys
+pub waits_are : (f : Key → State) (keys : List Key) (kept : List Kept) → map state_in kept ≡ map f keys → waiting_for kept ≡ flat_map (λ (key : Key). ids_of (f key).waiting) keys
 waits_are f [] [] h = refl
 waits_are f [] (one ∷ kept) h = cc
 waits_are f (key ∷ keys) [] h = cc
 waits_are f (key ∷ keys) (one ∷ kept) h =
     let head : state_in one ≡ f key = cc in
     let tail : map state_in kept ≡ map f keys = cc in
-    ap (λ (s : State). s.waiting ++ waiting_for kept) head ∙ ap (λ (ids : List OpId). (f key).waiting ++ ids) (waits_are f keys kept tail)
+    ap (λ (s : State). ids_of s.waiting ++ waiting_for kept) head ∙ ap (λ (ids : List OpId). ids_of (f key).waiting ++ ids) (waits_are f keys kept tail)
 
 pub on_ok_then : {X E : Type 0} (r : Result X E) (P Q : Type 0) → OnOk r P → (P → Q) → OnOk r Q
 on_ok_then (Ok x) P Q h f = f h

@@ -11,7 +11,7 @@ use Rattle.nb_base.specs.declared.line.Line.{Line}
 use Rattle.nud_machine.specs.State.{State}
 use Rattle.nb_journal.specs.declared.kept.Kept.{Kept}
 use Rattle.nb_journal.specs.Fold.{state_of, known_keys}
-use Rattle.nb_journal.specs.Evaluated.{state_in}
+use Rattle.nb_journal.specs.Steps.{state_in}
 use Rattle.text_codes.specs.Lines.{Words, line_text, text_of}
 use Rattle.neigh_run.specs.Entries.{entry_if_present, entries_after}
 use Rattle.neigh_report.specs.Left.{rows, listed}

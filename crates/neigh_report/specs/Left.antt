@@ -20,7 +20,8 @@ use Rattle.nb_base.specs.declared.key.Key.{Key}
 use Rattle.nb_base.specs.declared.key.Key.TheVariants.{V4}
 use Rattle.nb_journal.specs.Keys.{key_of}
 use Rattle.nb_journal.specs.Fold.{state_of, known_keys}
-use Rattle.nb_journal.specs.Evaluated.{IsShort}
+use Rattle.nb_journal.specs.Steps.{IsShort}
+use Rattle.nud_machine.specs.Laws.{ids_of}
 
 -- the present ones of keys' entries
 abbrev pub rows : Host → List Key → List State → List Words
@@ -55,11 +56,11 @@ IsShortFold fold = IsShort fold.lines
 
 -- the packets that wait for entries
 abbrev pub waiting_for : List Kept → List OpId
-waiting_for kept = flat_map (λ (one : Kept). one.waiting.ids) kept
+waiting_for kept = flat_map (λ (one : Kept). ids_of one.waiting) kept
 
 -- the packets that wait behind a journal
 abbrev pub waits_behind : Taken → List OpId
-waits_behind fold = flat_map (λ key. (state_of fold.params fold.lines key).waiting) (known_keys fold.lines)
+waits_behind fold = flat_map (λ key. ids_of (state_of fold.params fold.lines key).waiting) (known_keys fold.lines)
 
 -- and behind all of them
 abbrev pub waits : List Taken → List OpId

@@ -4,7 +4,7 @@ ghost use Rattle.std.specs.List.{flat_map, AllByRecursion};
 ghost use Rattle.text_codes.specs.Lines.{text_of};
 ghost use Rattle.nb_base.specs.Params.{InRange};
 ghost use Rattle.nb_journal.specs.Lawful.{EachLine};
-ghost use Rattle.nb_journal.specs.Evaluated.{IsShort, IsStep, IsStepped};
+ghost use Rattle.nb_journal.specs.Steps.{IsShort, IsStep, IsStepped};
 ghost use Rattle.neigh_run.specs.Entries.{entries_after};
 ghost use Rattle.neigh_run.specs.Report as report_of;
 ghost use Rattle.neigh_report.specs.Left as left;

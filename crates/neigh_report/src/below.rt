@@ -2,7 +2,7 @@
 ghost use Rattle.std.specs.Prelude.{◌≡◌, ◌<◌, ◌^◌, ◌++◌, ◌∷◌, [], map, length, string_bytes, unwrap_or, IfOk, OnOk};
 ghost use Rattle.text_codes.specs.Lines.{text_of};
 ghost use Rattle.nb_journal.specs.Accounts.{acts_at};
-ghost use Rattle.nb_journal.specs.Evaluated.{IsStep, state_in};
+ghost use Rattle.nb_journal.specs.Steps.{IsStep, state_in};
 ghost use Rattle.nb_journal.specs.Keys as keys_of;
 ghost use Rattle.neigh_run.specs.Entries.{entry_if_present, entries_after};
 ghost use Rattle.neigh_run.specs.Report as report_of;
@@ -129,7 +129,7 @@ pub fn write_and_take(
     requires params { fold.old.params ≡ plan.now.params }
     requires few { length fold.old.lines < 2 ^ 32 }
     requires step { IsStep plan.now.params fold.old.lines line.now }
-    ensures written { OnOk result (string_bytes report.new ≡ string_bytes report.old ++ text_of (report_of.line_words plan.now fold.old.lines line.now ∷ report_of.lines_below plan.now fold.old.lines line.now line.now.op)) }
+    ensures written { OnOk result (string_bytes report.new ≡ string_bytes report.old ++ text_of (report_of.line_words plan.now fold.old.lines line.now ∷ report_of.all_below plan.now fold.old.lines line.now)) }
     ensures lines { OnOk result (fold.new.lines ≡ fold.old.lines ++ line.now ∷ []) }
     ensures params { fold.new.params ≡ plan.now.params }
     ensures acts { OnOk result (acts.new.items ≡ acts.old.items ++ acts_at plan.now.params fold.old.lines line.now) }
@@ -137,9 +137,9 @@ pub fn write_and_take(
     let place = fold.lines().len();
     let mut below = look_of(alloc, &plan.host, fold, &line.op)?;
     let mut own = Vec::new(alloc);
-    let reply = fold.take_with_acts(alloc, line, room, &mut own)?;
+    let reply = fold.append_with_acts(alloc, line, room, &mut own)?;
     write_acts_below(&mut below, plan, &line.op, &own)?;
-    write_line(report, place, line, reply)?;
+    write_line(report, plan.buckets, place, line, reply)?;
     report.push_str(&below)?;
     acts.extend_from_slice(&own)
 }

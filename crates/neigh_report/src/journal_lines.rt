@@ -26,7 +26,7 @@ pub fn write_bucket(report: &mut String, number: usize, lines: usize) -> Result<
 }
 
 /// A line at its place, with its reply.
-pub fn write_line(
+fn write_line_words(
     report: &mut String,
     place: usize,
     line: &Line,
@@ -40,6 +40,38 @@ pub fn write_line(
     add_answer(report, reply)?;
     writeln!(report)?;
     Ok(())
+}
+
+#[tactic(auto, unfolding(text_codes::specs::Lines::line_text))]
+fn write_number_seen(report: &mut String, seen: u32) -> Result<(), AllocError>
+    ensures { OnOk result (string_bytes report.new ≡ string_bytes report.old ++ line_text (report_of.set_in (codes "seen" ∷ decimal seen ∷ []))) }
+{
+    writeln!(report, "  seen {seen}")?;
+    Ok(())
+}
+
+/// What a line saw of the whole table, where that has two or more buckets.
+fn write_seen(report: &mut String, buckets: u32, seen: Option<u32>) -> Result<(), AllocError>
+    ensures { OnOk result (string_bytes report.new ≡ string_bytes report.old ++ text_of (report_of.seen_lines buckets seen)) }
+{
+    match seen {
+        Some(seen) if buckets >= 2 => write_number_seen(report, seen),
+        _ => Ok(()),
+    }
+}
+
+/// A line at its place, with its reply, and what it saw below it.
+pub fn write_line(
+    report: &mut String,
+    buckets: u32,
+    place: usize,
+    line: &Line,
+    reply: Option<Reply>,
+) -> Result<(), AllocError>
+    ensures { OnOk result (string_bytes report.new ≡ string_bytes report.old ++ text_of ((decimal place ∷ decimal line.now.at ∷ id_word line.now.id ∷ (op_words line.now.op ++ codes "->" ∷ reply_part reply)) ∷ report_of.seen_lines buckets line.now.seen)) }
+{
+    write_line_words(report, place, line, reply)?;
+    write_seen(report, buckets, line.seen)
 }
 
 #[tactic(auto, unfolding(text_codes::specs::Lines::line_text))]

@@ -2,7 +2,7 @@
 ghost use Rattle.std.specs.Prelude.{◌≡◌, ◌<◌, ◌≤◌, ◌+◌, ◌^◌, ◌++◌, [], false, length, IfOk, OnOk};
 ghost use Rattle.std.specs.List.{flat_map, list_any, AllByRecursion};
 ghost use Rattle.nb_base.specs.Params.{InRange};
-ghost use Rattle.nb_journal.specs.Evaluated.{IsShort, IsStepped};
+ghost use Rattle.nb_journal.specs.Steps.{IsShort, IsStepped};
 ghost use Rattle.neigh_run.specs.Inline.{IsInlineRun};
 ghost use Rattle.neigh_run.specs.Fates.{HasOneFateEach, CountFates};
 ghost use Rattle.neigh_run.specs.Merged.{packet_count, is_sending};
@@ -34,7 +34,7 @@ fn take_journal(
     let mut fold = Fold::new(alloc, &plan.params)?;
     let mut room = Acts::new(alloc)?;
     for line in lines {
-        fold.take_with_acts(alloc, line, &mut room, acts)?;
+        fold.append_with_acts(alloc, line, &mut room, acts)?;
     }
     Ok(fold)
 }

@@ -3,7 +3,7 @@ ghost use Rattle.std.specs.Prelude.{◌≡◌, ◌++◌, ◌∷◌, [], codes, l
 ghost use Rattle.std.specs.List.{AllByRecursion, flat_map};
 ghost use Rattle.text_codes.specs.Lines.{text_of, line_text};
 ghost use Rattle.nb_base.specs.Params.{InRange};
-ghost use Rattle.nb_journal.specs.Evaluated.{IsShort, IsStepped};
+ghost use Rattle.nb_journal.specs.Steps.{IsShort, IsStepped};
 ghost use Rattle.neigh_run.specs.Report as report_of;
 ghost use Rattle.neigh_report.specs.Left as left;
 

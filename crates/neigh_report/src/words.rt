@@ -3,7 +3,7 @@ ghost use Rattle.std.specs.Prelude.{◌≡◌, ◌++◌, ◌∷◌, [], map, tak
 ghost use Rattle.nb_base.specs.Address.{key_text, mac_text};
 ghost use Rattle.text_codes.specs.HexText.{hex_text};
 ghost use Rattle.neigh_run.specs.Spelling as spelling;
-ghost use Rattle.neigh_run.specs.Spelling.{mac_word, op_words, id_word, reply_words, reply_part, class_word, placed_words};
+ghost use Rattle.neigh_run.specs.Spelling.{mac_word, op_words, id_word, dropping_words, reply_words, reply_part, class_word, placed_words};
 ghost use Rattle.neigh_report.specs.Spaced.{spaced};
 
 use crate::spelling::{flag, state_word};
@@ -39,14 +39,22 @@ fn add_number(report: &mut String, id: OpId) -> Result<(), AllocError>
     Ok(())
 }
 
-fn add_waits(report: &mut String, dropped: Option<OpId>) -> Result<(), AllocError>
+/// How many packets were dropped for the one that waits, where any were.
+fn add_dropping(report: &mut String, dropped: u32) -> Result<(), AllocError>
+    ensures { OnOk result (string_bytes report.new ≡ string_bytes report.old ++ spaced (dropping_words dropped)) }
+{
+    if dropped == 0 {
+        return Ok(());
+    }
+    write!(report, " dropping {dropped}")?;
+    Ok(())
+}
+
+fn add_waits(report: &mut String, dropped: u32) -> Result<(), AllocError>
     ensures { OnOk result (string_bytes report.new ≡ string_bytes report.old ++ spaced (reply_words (Reply.Waits dropped))) }
 {
     report.push_str(" waits")?;
-    if let Some(id) = dropped {
-        write!(report, " dropping {id}")?;
-    }
-    Ok(())
+    add_dropping(report, dropped)
 }
 
 fn add_full(report: &mut String, seen: u32) -> Result<(), AllocError>
@@ -224,7 +232,7 @@ pub fn add_op(report: &mut String, op: &Op) -> Result<(), AllocError>
     ensures { OnOk result (string_bytes report.new ≡ string_bytes report.old ++ spaced (op_words op.now)) }
 {
     match *op {
-        Op::Send { key } => add_verb(report, "send", key),
+        Op::Send { key, .. } => add_verb(report, "send", key),
         Op::Arp {
             key,
             mac,

@@ -3,10 +3,10 @@ use Rattle.std.specs.Prelude.{string_bytes}
 use Rattle.nb_base.specs.declared.line.Line.{Line}
 use Rattle.nud_machine.specs.declared.act.Act.{Act}
 use Rattle.nb_journal.specs.Accounts.{acts_at}
-use Rattle.nb_journal.specs.Evaluated.{IsStep}
+use Rattle.nb_journal.specs.Steps.{IsStep}
 use Rattle.nb_journal.proofs.Takes.{taken, each-take_at}
 use Rattle.text_codes.specs.Lines.{text_of}
-use Rattle.neigh_run.specs.Report.{journal_acts, line_words, lines_below}
+use Rattle.neigh_run.specs.Report.{journal_acts, line_words, all_below}
 use Rattle.neigh_report.proofs.LeftBehind.{acts_more, written_more}
 use Rattle.neigh_report.proofs.behind.write_journal.Goals as goal
 
@@ -24,7 +24,7 @@ loop-line-preserved c =
     let told = c.in_ok-write_and_take.ensures in
     rw (taken c.args.lines.now c.loop-line.line-index line (omega arith) c.line-item.is) (record {
       written = written_more plan past line (string_bytes c.args.report.now) (string_bytes c.loop-line.report) (string_bytes c.write_and_take.new.report) c.loop-line.invariant.written
-          (subst (λ (xs : List Line). string_bytes c.write_and_take.new.report ≡ string_bytes c.loop-line.report ++ text_of (line_words plan xs line ∷ lines_below plan xs line line.op)) here told.written);
+          (subst (λ (xs : List Line). string_bytes c.write_and_take.new.report ≡ string_bytes c.loop-line.report ++ text_of (line_words plan xs line ∷ all_below plan xs line)) here told.written);
       taken = told.lines ∙ ap (λ (xs : List Line). xs ++ line ∷ []) here;
       params = c.write_and_take.ensures.params;
       acts = told.acts ∙ ap (λ (xs : List Line). c.loop-line.acts.items ++ acts_at plan.params xs line) here

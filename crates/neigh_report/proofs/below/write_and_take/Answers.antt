@@ -14,10 +14,10 @@ returns-clause-written c =
     let lines = c.args.fold.now.lines in
     let line = c.args.line.now in
     let p = c.requires.params in
-    on_ok _ _ (written_is c.args.plan.now lines line c.take_with_acts.new.acts.items c.in_ok-reply.reply (string_bytes c.args.report.now) (string_bytes c.write_line.new.report) (string_bytes c.push_str.new.self)
+    on_ok _ _ (written_is c.args.plan.now lines line c.append_with_acts.new.acts.items c.in_ok-reply.reply (string_bytes c.args.report.now) (string_bytes c.write_line.new.report) (string_bytes c.push_str.new.self)
     (string_bytes c.in_ok-below.below) (string_bytes c.write_acts_below.new.below)
     (subst (λ (x : Params). string_bytes c.in_ok-below.below ≡ text_of (look c.args.plan.now.host x lines line.op)) p c.in_ok-below.ensures)
-    (subst (λ (x : Params). c.take_with_acts.new.acts.items ≡ acts_at x lines line) p (rw c.new-own.ensures.items at c.in_ok-reply.ensures.acts))
+    (subst (λ (x : Params). c.append_with_acts.new.acts.items ≡ acts_at x lines line) p (rw c.new-own.ensures.items at c.in_ok-reply.ensures.acts))
     (search rules)
     (subst (λ (x : Params). c.in_ok-reply.reply ≡ reply_of x lines line) p c.in_ok-reply.ensures.reply)
     (rw c.lines-place.ensures at c.in_ok-write_line.ensures) (search rules))

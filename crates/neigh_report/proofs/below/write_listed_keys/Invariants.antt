@@ -1,7 +1,7 @@
 use Rattle.std.proofs.Common.{◌≡◌, ◌++◌, take}
 use Rattle.std.specs.Prelude.{string_bytes, map}
 use Rattle.text_codes.specs.Lines.{text_of}
-use Rattle.nb_journal.specs.Evaluated.{state_in}
+use Rattle.nb_journal.specs.Steps.{state_in}
 use Rattle.neigh_report.specs.Left.{rows, listed}
 use Rattle.neigh_report.proofs.below.write_listed_keys.Given as goal
 

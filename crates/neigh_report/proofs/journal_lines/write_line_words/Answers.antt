@@ -2,7 +2,7 @@ use Rattle.std.proofs.Common.{[], ◌∷◌}
 use Rattle.std.specs.Prelude.{string_bytes, decimal, codes}
 use Rattle.neigh_run.specs.Spelling.{id_word, op_words, reply_part}
 use Rattle.neigh_report.proofs.SpacedWords.{line_three}
-use Rattle.neigh_report.proofs.journal_lines.write_line.Goals as goal
+use Rattle.neigh_report.proofs.journal_lines.write_line_words.Goals as goal
 
 pub returns : goal.returns
 returns c =
