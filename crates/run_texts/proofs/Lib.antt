@@ -1,0 +1,13 @@
+pub mod Lists
+pub mod Numbers
+pub mod Named
+pub mod Seen
+pub mod Rows
+pub mod Journals
+pub mod Outcomes
+pub mod Marks
+pub mod Whole
+pub mod Inline
+pub mod Writable
+pub mod InlineTexts
+pub mod Worked

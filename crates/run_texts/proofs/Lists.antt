@@ -1,0 +1,27 @@
+-- What holds of each element of a list, and of each line of a journal.
+use Rattle.std.proofs.Common.{◌≡◌, ◌≤◌, Bool, true, false, if◌then◌else◌, List, [], ◌∷◌, ◌++◌, length, refl, arith}
+use Rattle.std.specs.Prelude.{filter}
+use Rattle.std.specs.List.{AllByRecursion, list_all}
+use Rattle.std.proofs.lemmas.Bool.{and_from}
+use Rattle.nb_base.specs.declared.line.Line.{Line}
+use Rattle.nb_journal.specs.Lawful.{each_line}
+
+pub all_pass : {A : Type 0} (t : A → Bool) (xs : List A) → AllByRecursion (λ x. t x ≡ true) xs → list_all t xs ≡ true
+all_pass t [] h = refl
+all_pass t (x ∷ xs) h = and_from (t x) (list_all t xs) h.0 (all_pass t xs h.1)
+
+-- what holds of each line with the lines before it, of the lines alone
+pub each_line-all : (P : List Line → Line → Type 0) (Q : Line → Type 0) (past lines : List Line) → ((past : List Line) (line : Line) → P past line → Q line) → each_line P past lines → AllByRecursion Q lines
+each_line-all P Q past [] h each = tt
+each_line-all P Q past (line ∷ lines) h each = (h past line each.0, each_line-all P Q (past ++ line ∷ []) lines h each.1)
+
+-- no more pass a test than there are
+pub filter-few : {A : Type 0} (t : A → Bool) (xs : List A) → length (filter t xs) ≤ length xs
+filter-few t [] = omega arith
+filter-few {A} t (x ∷ xs) = by_test (t x) (filter-few t xs) where
+  by_test : (b : Bool) → length (filter t xs) ≤ length xs → length (if b then x ∷ filter t xs else filter t xs) ≤ length (x ∷ xs)
+  by_test true rest = omega (arith, rest)
+  by_test false rest = omega (arith, rest)
+
+pub heads : {A : Type 0} (x y : A) (xs ys : List A) → x ∷ xs ≡ y ∷ ys → (x ≡ y) × (xs ≡ ys)
+heads x y xs ys e = (cc, cc)
