@@ -1,5 +1,6 @@
 -- One operation more is entered into a bucket: its journal, its answers, and the line bound where it has no room.
-use Rattle.std.proofs.Common.{◌≡◌, ℕ, ◌<◌, ◌≤◌, Bool, true, false, if◌then◌else◌, max, List, [], ◌∷◌, ◌++◌, length, map, Option, Some, unwrap_or, refl, sym, ◌∙◌, ap, subst, arith, append_assoc, append-nil}
+use Rattle.std.proofs.Common.{◌≡◌, ℕ, ◌<◌, ◌≤◌, ◌+◌, Bool, true, false, if◌then◌else◌, max, List, [], ◌∷◌, ◌++◌, length, map, Option, Some, None, unwrap_or, refl, sym, ◌∙◌, ap, subst, arith, append_assoc, append-nil}
+use Rattle.std.specs.Prelude.{IfSome, ◌-◌}
 use Rattle.std.specs.List.{list_all}
 use Rattle.std.proofs.lemmas.Bool.{and_parts}
 use Rattle.std.proofs.lemmas.List.{length-append, length-map, map-append}
@@ -14,18 +15,19 @@ use Rattle.nb_base.specs.declared.line.Reply.TheVariants as reply
 use Rattle.nb_base.specs.declared.params.Params.{Params}
 use Rattle.nb_base.specs.Params.{InRange}
 use Rattle.nb_journal.specs.Keys.{is_own}
-use Rattle.nb_journal.specs.Fold.{id_of, reply_of}
-use Rattle.nb_journal.specs.Lawful.{last_moment, IsLawful, collects, collect_line, sweep_line}
-use Rattle.nb_journal.specs.Accounts.{timer_line, line_bound}
+use Rattle.nb_journal.specs.Fold.{id_of, reply_of, present_count}
+use Rattle.nb_journal.specs.Lawful.{each_line, EachLine, last_moment, base_of, IsLawful, collects, collect_line, sweep_line}
+use Rattle.nb_journal.specs.Laws.{Saw}
+use Rattle.nb_journal.specs.Accounts.{timer_line, line_bound, own_lines}
 use Rattle.nb_journal.proofs.Lines.{last_moment-snoc}
 use Rattle.nb_journal.proofs.Passes.{collects_keys}
 use Rattle.nb_journal.proofs.Bound.{lawful_in_bound, broken_off_in_bound}
-use Rattle.nb_bucket.specs.Bucket as bucket
-use Rattle.nb_bucket.specs.Bucket.{Journal, is_by_time, GoesOn, brought, Enters, ComesNext, Timer, Sweep, EntersNext, ByTime, Operation, HasNoRoom, Refuses}
+use Rattle.nb_bucket.specs.Bucket.{Journal, is_by_time, GoesOn, operation_line, full_line, brought, Enters, ComesNext, Timer, Sweep, EntersNext, ByTime, Operation, Refuses}
+use Rattle.nb_bucket.specs.Counting.{CensusShown, CountsAlong}
 use Rattle.nb_bucket.specs.declared.fail.BucketFail.{BucketFail}
 use Rattle.nb_bucket.specs.declared.fail.BucketFail.TheVariants.{JournalFull}
 use Rattle.neigh_run.specs.Merged.{Entered}
-use Rattle.neigh_run.specs.Inline.{entered_line, own_lines, ends_own}
+use Rattle.neigh_run.specs.Inline.{entered_line, ends_own}
 use Rattle.neigh_replay.specs.declared.answers.Answer.{Answer}
 use Rattle.neigh_plan.specs.Inline.{most_lines}
 use Rattle.neigh_replay.specs.Answered.{answer_to, answers_behind, HasEntered}
@@ -126,10 +128,10 @@ later at clock le = omega (arith, le)
 
 -- what was entered, with one operation more
 pub entered_next : (before : List Line) (line : Line) (old new : Journal) (answers : List Answer) (place : ℕ) (r : Reply)
-    → is_own line.op ≡ true → old.clock ≤ line.at → HasEntered before old answers → Enters old new line.at (id_of line) line.op place r
+    → is_own line.op ≡ true → old.clock ≤ line.at → HasEntered before old answers → Enters old new line.at (id_of line) line.op place r → EachLine (Saw (present_count old.params)) new.lines
     → HasEntered (before ++ line ∷ []) new (answers ++ record { id = id_of line; at = line.at; place = place; reply = r } ∷ [])
-entered_next before line old new answers place r own le h e = record {
-  limit = ap (λ (j : Journal). j.limit) e.new_is ∙ e.goes_on.limit ∙ h.limit;
+entered_next before line old new answers place r own le h e saw = record {
+  limit = ap (λ (j : Journal). j.limit) e.new_is ∙ ap (λ (j : Journal). j.limit) e.goes_on.new_is ∙ h.limit;
   clock = clock ∙ at_line ∙ sym last ∙ sym (ap last_moment lines);
   last = clock ∙ at_line ∙ sym (last_moment-snoc before line);
   lawful = subst (λ (q : Params). IsLawful q new.lines new.clock) (sym params) e.lawful;
@@ -140,6 +142,7 @@ entered_next before line old new answers place r own le h e = record {
       ∙ ap (λ (xs : List Entered). xs ++ entered_line w ∷ []) h.entered
       ∙ ap (λ (m : ℕ). map entered_line before ++ (let made : Entered = record { at = m; id = id_of line; op = line.op } in made) ∷ []) at_line
       ∙ sym (map-append entered_line before (line ∷ []));
+  saw = subst (λ (q : Params). EachLine (Saw (present_count q)) new.lines) (sym params) saw;
   answered =
       ap (λ (zs : List Answer). zs ++ record { id = id_of line; at = line.at; place = place; reply = r } ∷ []) h.answered
       ∙ sym (
@@ -152,14 +155,17 @@ entered_next before line old new answers place r own le h e = record {
   p : Params
   p = old.params
 
+  bare : Line
+  bare = operation_line e.advanced.clock (id_of line) line.op e.seen
+
   w : Line
-  w = bucket.entered_line old.params e.advanced.lines e.advanced.clock (id_of line) line.op
+  w = full_line old.params e.advanced.lines bare
 
   pass : List Line
-  pass = collects old.params e.advanced.lines w
+  pass = collects old.params e.advanced.lines bare
 
   params : new.params ≡ old.params
-  params = ap (λ (j : Journal). j.params) e.new_is ∙ e.goes_on.params
+  params = ap (λ (j : Journal). j.params) e.new_is ∙ ap (λ (j : Journal). j.params) e.goes_on.new_is
 
   clock : new.clock ≡ e.advanced.clock
   clock = ap (λ (j : Journal). j.clock) e.new_is
@@ -167,14 +173,17 @@ entered_next before line old new answers place r own le h e = record {
   at_line : e.advanced.clock ≡ line.at
   at_line = e.moment ∙ later line.at old.clock le
 
+  advanced : e.advanced.lines ≡ old.lines ++ e.goes_on.more
+  advanced = ap (λ (j : Journal). j.lines) e.goes_on.new_is
+
   lines : new.lines ≡ whole old.lines e.goes_on.more pass w
-  lines = ap (λ (j : Journal). j.lines) e.new_is ∙ ap (λ (xs : List Line). xs ++ (pass ++ w ∷ [])) e.goes_on.lines
+  lines = ap (λ (j : Journal). j.lines) e.new_is ∙ ap (λ (xs : List Line). xs ++ (pass ++ w ∷ [])) advanced
 
   last : last_moment (whole old.lines e.goes_on.more pass w) ≡ line.at
   last = ap last_moment (sym (append_assoc (old.lines ++ e.goes_on.more) pass (w ∷ []))) ∙ last_moment-snoc ((old.lines ++ e.goes_on.more) ++ pass) w ∙ at_line
 
   brings : Brings p old.lines e.goes_on.more pass w
-  brings = record { own_more = own_by_time e.goes_on.more e.goes_on.by_time; own_before = own_pass old.params e.advanced.lines w; own = own }
+  brings = record { own_more = own_by_time e.goes_on.more e.goes_on.by_time; own_before = own_pass old.params e.advanced.lines bare; own = own }
 
   here : place ≡ length ((old.lines ++ e.goes_on.more) ++ pass)
   here =
@@ -186,14 +195,34 @@ entered_next before line old new answers place r own le h e = record {
       omega (arith, all, long, front, middle, back)
 
   replied : reply_of p ((old.lines ++ e.goes_on.more) ++ pass) w ≡ Some r
-  replied = subst (λ (xs : List Line). reply_of p (xs ++ pass) w ≡ Some r) e.goes_on.lines e.reply_is
+  replied = subst (λ (xs : List Line). reply_of p (xs ++ pass) w ≡ Some r) advanced e.reply_is
+
+-- ---- what the lines saw
+
+each_join : (P : List Line → Line → Type 0) (first xs ys : List Line) → each_line P first xs → each_line P (first ++ xs) ys → each_line P first (xs ++ ys)
+each_join P first [] ys h g = subst (λ (zs : List Line). each_line P zs ys) (append-nil first) g
+each_join P first (x ∷ xs) ys h g = (h.0, each_join P (first ++ x ∷ []) xs ys h.1 (subst (λ (zs : List Line). each_line P zs ys) (sym (append_assoc first (x ∷ []) xs)) g))
+
+saw_alone : (seen : Option ℕ) (n : ℕ) → IfSome seen (λ s. s ≡ n + 0) → IfSome seen (λ s. s ≡ n)
+saw_alone None n h = h
+saw_alone (Some s) n h = let alone : n + 0 ≡ n = omega arith in h ∙ alone
+
+-- where the others hold nothing, the lines of a call saw their own bucket
+none_elsewhere : (p : Params) (past lines : List Line) → each_line (Saw (λ xs. present_count p xs + 0)) past lines → each_line (Saw (present_count p)) past lines
+none_elsewhere p past [] h = tt
+none_elsewhere p past (l ∷ ls) h = (saw_alone l.seen (present_count p (base_of past)) h.0, none_elsewhere p (past ++ l ∷ []) ls h.1)
+
+all_saw : (p : Params) (before after : List Line) (census counted : CensusShown) → EachLine (Saw (present_count p)) before → CountsAlong p before after census counted → census.others ≡ Some 0 → EachLine (Saw (present_count p)) after
+all_saw p before after census counted saw along alone =
+    subst (EachLine (Saw (present_count p))) (sym along.grown)
+    (each_join (Saw (present_count p)) [] before along.more saw (none_elsewhere p before along.more (subst (λ (o : Option ℕ). IfSome o (λ n. each_line (Saw (λ xs. present_count p xs + n)) before along.more)) alone along.told)))
 
 -- ---- no room
 
 -- the operations so far, with what comes next
 own_next : (old new : Journal) (next : List Line) (operations : ℕ) → GoesOn old new → length (own_lines next) ≤ 1 → length (own_lines old.lines) < operations → length (own_lines (new.lines ++ next)) ≤ operations
 own_next old new next operations on few lt =
-    let lines = on.lines in
+    let lines = ap (λ (j : Journal). j.lines) on.new_is in
     let own =
     ap (λ (xs : List Line). length (own_lines (xs ++ next))) lines
     ∙ ap (λ (xs : List Line). length xs) (
@@ -213,36 +242,39 @@ comes_in_bound : (p : Params) (lines next : List Line) (to moment operations : �
     → length (lines ++ next) < line_bound p operations moment
 comes_in_bound p lines next to moment operations r (Timer key at le due broken) upto few =
     broken_off_in_bound p (lines ++ timer_line at key ∷ []) at moment operations r broken (omega (arith, le, upto)) (few (one_own (timer_line at key)))
-comes_in_bound p lines next to moment operations r (Sweep u le is lawful) upto few =
-    lawful_in_bound p (lines ++ sweep_line u ∷ []) u moment operations r lawful (omega (arith, le, upto)) (few (one_own (sweep_line u)))
+comes_in_bound p lines next to moment operations r (Sweep u seen le is lawful) upto few =
+    lawful_in_bound p (lines ++ sweep_line u seen ∷ []) u moment operations r lawful (omega (arith, le, upto)) (few (one_own (sweep_line u seen)))
 
-enters_in_bound : (p : Params) (lines next : List Line) (to moment operations : ℕ) (id : OpId) (o : Op) → InRange p → EntersNext p lines to id o next → to ≤ moment
+enters_in_bound : (p : Params) (lines next : List Line) (to moment operations : ℕ) (id : OpId) (o : Op) (others : Option ℕ) → InRange p → EntersNext p lines to id o others next → to ≤ moment
     → (length (own_lines next) ≤ 1 → length (own_lines (lines ++ next)) ≤ operations) → length (lines ++ next) < line_bound p operations moment
-enters_in_bound p lines next to moment operations id o r (ByTime by comes) upto few = comes_in_bound p lines next to moment operations r comes upto few
-enters_in_bound p lines next to moment operations id o r (Operation before lawful) upto few =
-    lawful_in_bound p (lines ++ brought p lines to id o) to moment operations r lawful upto (few own) where
-      w : Line
-      w = bucket.entered_line p lines to id o
+enters_in_bound p lines next to moment operations id o others r (ByTime by comes) upto few = comes_in_bound p lines next to moment operations r comes upto few
+enters_in_bound p lines next to moment operations id o others r (Operation seen total before lawful) upto few =
+    lawful_in_bound p (lines ++ brought p lines bare) to moment operations r lawful upto (few own) where
+      bare : Line
+      bare = operation_line to id o seen
 
-      own : length (own_lines (brought p lines to id o)) ≤ 1
+      w : Line
+      w = full_line p lines bare
+
+      own : length (own_lines (brought p lines bare)) ≤ 1
       own =
           let one = one_own w in
-          let same = ap (λ (xs : List Line). length xs) (own-append (collects p lines w) (w ∷ []) ∙ ap (λ (xs : List Line). xs ++ own_lines (w ∷ [])) (own_pass p lines w)) in
+          let same = ap (λ (xs : List Line). length xs) (own-append (collects p lines bare) (w ∷ []) ∙ ap (λ (xs : List Line). xs ++ own_lines (w ∷ [])) (own_pass p lines bare)) in
           omega (arith, one, same)
 
 -- a bucket without room for an operation has as many lines as the line bound allows
-pub no_room : (before : List Line) (line : Line) (old new : Journal) (answers : List Answer) (has needs moment operations : ℕ)
+pub no_room : (before : List Line) (line : Line) (old new : Journal) (answers : List Answer) (has needs moment operations : ℕ) (others : Option ℕ)
     → InRange old.params → old.clock ≤ line.at → HasEntered before old answers → line.at ≤ moment → length before < operations
-    → Refuses old new (EntersNext old.params new.lines (max line.at old.clock) (id_of line) line.op) (JournalFull has needs)
+    → Refuses old new (max line.at old.clock) (EntersNext old.params new.lines (max line.at old.clock) (id_of line) line.op others) (JournalFull has needs)
     → most_lines ≤ line_bound old.params operations moment
-no_room before line old new answers has needs moment operations r le h upto few e =
+no_room before line old new answers has needs moment operations others r le h upto few e =
     let cause = e.cause in
-    let bound = enters_in_bound old.params new.lines cause.next (max line.at old.clock) moment operations (id_of line) line.op r cause.comes (omega (arith, le, upto))
+    let bound = enters_in_bound old.params new.lines cause.next (max line.at old.clock) moment operations (id_of line) line.op others r cause.comes (omega (arith, le, upto))
     (λ one. own_next old new cause.next operations e.goes_on one own) in
     let all = cause.too_many in
     let has_is = cause.has_is in
     let needs_is = cause.needs_is in
-    let limit = e.goes_on.limit ∙ h.limit in
+    let limit = ap (λ (j : Journal). j.limit) e.goes_on.new_is ∙ h.limit in
     let both = length-append new.lines cause.next in
     omega (arith, bound, all, has_is, needs_is, limit, both) where
       own : length (own_lines old.lines) < operations
@@ -254,17 +286,22 @@ no_room before line old new answers has needs moment operations r le h upto few 
 
 -- ---- the same, as a call's clauses say it
 
-pub next_entered : (line : Line) (old new : Journal) (answers more : List Answer) (id : OpId) (place : ℕ) (r : Reply)
-    → is_own line.op ≡ true → old.clock ≤ line.at → id ≡ id_of line → Enters old new line.at id line.op place r → more ≡ answers ++ record { id = id; at = line.at; place = place; reply = r } ∷ []
+pub next_entered : (line : Line) (old new : Journal) (answers more : List Answer) (id : OpId) (place : ℕ) (r : Reply) (census counted : CensusShown)
+    → is_own line.op ≡ true → old.clock ≤ line.at → id ≡ id_of line → Enters old new line.at id line.op place r → CountsAlong old.params old.lines new.lines census counted → census.others ≡ Some 0
+    → more ≡ answers ++ record { id = id; at = line.at; place = place; reply = r } ∷ []
     → (before : List Line) → HasEntered before old answers → HasEntered (before ++ line ∷ []) new more
-next_entered line old new answers more id place r own le same e added before h =
+next_entered line old new answers more id place r census counted own le same e along alone added before h =
     subst (HasEntered (before ++ line ∷ []) new) (ap (λ (i : OpId). answers ++ (let made : Answer = record { id = i; at = line.at; place = place; reply = r } in made) ∷ []) (sym same) ∙ sym added)
-    (entered_next before line old new answers place r own le h (subst (λ (i : OpId). Enters old new line.at i line.op place r) same e))
+    (entered_next before line old new answers place r own le h (subst (λ (i : OpId). Enters old new line.at i line.op place r) same e) (all_saw old.params old.lines new.lines census counted h.saw along alone))
 
-pub no_room_left : (line : Line) (old new : Journal) (answers : List Answer) (id : OpId) (fail : BucketFail) (has needs : ℕ)
-    → InRange old.params → old.clock ≤ line.at → id ≡ id_of line → fail ≡ JournalFull has needs → Refuses old new (EntersNext old.params new.lines (max line.at old.clock) id line.op) fail
+pub no_room_left : (line : Line) (old new : Journal) (answers : List Answer) (id : OpId) (fail : BucketFail) (has needs : ℕ) (others : Option ℕ)
+    → InRange old.params → old.clock ≤ line.at → id ≡ id_of line → fail ≡ JournalFull has needs → Refuses old new (max line.at old.clock) (EntersNext old.params new.lines (max line.at old.clock) id line.op others) fail
     → (before : List Line) (moment operations : ℕ) → HasEntered before old answers → line.at ≤ moment → length before < operations → most_lines ≤ line_bound old.params operations moment
-no_room_left line old new answers id fail has needs r le same full refused before moment operations h upto few =
-    no_room before line old new answers has needs moment operations r le h upto few
-    (subst (λ (i : OpId). Refuses old new (EntersNext old.params new.lines (max line.at old.clock) i line.op) (JournalFull has needs)) same
-    (subst (λ (f : BucketFail). Refuses old new (EntersNext old.params new.lines (max line.at old.clock) id line.op) f) full refused))
+no_room_left line old new answers id fail has needs others r le same full refused before moment operations h upto few =
+    no_room before line old new answers has needs moment operations others r le h upto few
+    (subst (λ (i : OpId). Refuses old new (max line.at old.clock) (EntersNext old.params new.lines (max line.at old.clock) i line.op others) (JournalFull has needs)) same
+    (subst (λ (f : BucketFail). Refuses old new (max line.at old.clock) (EntersNext old.params new.lines (max line.at old.clock) id line.op others) f) full refused))
+
+-- the others of a bucket that is the whole table hold nothing
+pub alone : (present others : ℕ) → others ≡ present - present → Some others ≡ Some 0
+alone present others e = let none : others ≡ 0 = omega (arith, e) in ap (λ (n : ℕ). Some n) none

@@ -1,5 +1,5 @@
 -- What a script's text gives is what the files give, where one bucket is asked for and no capture.
-use Rattle.std.proofs.Common.{◌≡◌, ℕ, ◌<◌, ◌≤◌, Bool, true, false, List, [], length, Option, Some, None, refl, sym, ap, subst, ◌∙◌}
+use Rattle.std.proofs.Common.{◌≡◌, ℕ, ◌<◌, ◌≤◌, true, false, List, [], length, Option, Some, None, refl, sym, ap, subst}
 use Rattle.std.specs.Prelude.{is_some, IfSome, MatchResult, Result, Ok, Err}
 use Rattle.nb_base.specs.declared.plan.Mode.{Mode}
 use Rattle.neigh_script.specs.declared.script.Script.{Script}

@@ -1,6 +1,6 @@
 -- The run that is made of a bucket's journal and its answers is the plan's inline run.
 use Rattle.std.proofs.Common.{◌≡◌, ℕ, ◌+◌, ◌*◌, ◌/◌, ◌≤◌, Bool, true, false, if◌then◌else◌, List, [], ◌∷◌, ◌++◌, length, map, Option, Some, None, unwrap_or, refl, sym, ◌∙◌, ap, subst, arith, append_assoc}
-use Rattle.std.specs.Prelude.{filter, ◌==◌}
+use Rattle.std.specs.Prelude.{filter, ◌==◌, IfSome}
 use Rattle.std.specs.Option.{option_map_or}
 use Rattle.std.specs.List.{AllByRecursion}
 use Rattle.std.proofs.lemmas.Bool.{eq-eqb}
@@ -23,13 +23,18 @@ use Rattle.nb_base.specs.declared.host_line.Placed.{Placed}
 use Rattle.nb_base.specs.declared.host_line.HostLine.{HostLine}
 use Rattle.nb_base.specs.declared.host_line.HostLine.TheVariants as host_line
 use Rattle.nb_journal.specs.Keys.{key_of, is_own}
-use Rattle.nb_journal.specs.Fold.{id_of, reply_of}
-use Rattle.nb_journal.specs.Lawful.{IsLawful}
+use Rattle.nb_journal.specs.Fold.{id_of, reply_of, present_count}
+use Rattle.nb_journal.specs.Accounts.{own_lines}
+use Rattle.nb_journal.specs.Lawful.{EachLine, base_of, IsLawful}
+use Rattle.nb_journal.specs.Laws.{Saw}
+use Rattle.nb_journal.proofs.Lines.{each-map}
 use Rattle.nb_bucket.specs.Bucket.{Journal}
 use Rattle.neigh_run.specs.Control.{HostState, Waiting, host_start, turn, waiting_behind, due_by, answer_lines}
 use Rattle.neigh_run.specs.Merged.{Entered, id_for, control_ops, sender_ops, goes_to, merged, merged_for}
-use Rattle.neigh_run.specs.Inline.{own_lines, entered_line, placed_at, placed_from, log_of, logs_of, host_lines_of, IsInlineRun}
+use Rattle.neigh_run.specs.Inline.{entered_line, placed_at, placed_from, log_of, logs_of, host_lines_of, IsInlineRun}
+use Rattle.neigh_run.specs.Seen.{sees}
 use Rattle.neigh_run.specs.declared.run.Run.{Run}
+use Rattle.neigh_run.proofs.OneBucket.{sees-one}
 use Rattle.neigh_run.specs.Plan.{IsWithinLimits}
 use Rattle.neigh_replay.specs.declared.answers.Answer.{Answer}
 use Rattle.neigh_plan.specs.Merging.{lines_of}
@@ -177,6 +182,16 @@ pub numbered_all : (plan : Plan) (bucket : Journal) (answers : List Answer) → 
 numbered_all plan bucket answers within h =
     subst (AllByRecursion IsNumbered) (sym h.answered) (numbered bucket.params [] bucket.lines (subst (Each IsSmall) (sym (entered_all plan bucket answers h)) (in_order plan within).small))
 
+-- a line that saw the entries of its bucket saw the whole table, which is this bucket
+saw_whole : (seen : Option ℕ) (m n : ℕ) → n ≡ m → IfSome seen (λ s. s ≡ m) → IfSome seen (λ s. s ≡ n)
+saw_whole None m n e h = h
+saw_whole (Some s) m n e h = h ∙ sym e
+
+saw_here : (plan : Plan) (journal : List Line) → EachLine (Saw (present_count plan.params)) journal → EachLine (Saw (sees plan (journal ∷ []) 0)) journal
+saw_here plan journal all =
+    each-map (Saw (present_count plan.params)) (Saw (sees plan (journal ∷ []) 0)) journal
+    (λ past line h. saw_whole line.seen (present_count plan.params (base_of past)) (sees plan (journal ∷ []) 0 (base_of past)) (sees-one plan journal (base_of past)) h) all
+
 pub made_inline : (plan : Plan) (bucket : Journal) (answers : List Answer) (run : Run) → plan.buckets ≡ 1 → IsWithinLimits plan → bucket.params ≡ plan.params → Made plan bucket answers → run ≡ run_by plan bucket.lines answers
     → IsInlineRun plan run
 made_inline plan bucket answers run one within params h is = subst (IsInlineRun plan) (sym is) (record {
@@ -188,6 +203,7 @@ made_inline plan bucket answers run one within params h is = subst (IsInlineRun 
       lawful = subst (λ (m : ℕ). IsLawful plan.params bucket.lines m) h.clock (subst (λ (q : Params). IsLawful q bucket.lines bucket.clock) params h.lawful);
       ends = h.ends;
       entered = entered ∙ sym (merged_for-one plan one);
+      seen = saw_here plan bucket.lines (subst (λ (q : Params). EachLine (Saw (present_count q)) bucket.lines) params h.saw);
     },
     tt,
   );

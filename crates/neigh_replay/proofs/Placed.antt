@@ -14,9 +14,10 @@ use Rattle.nb_base.specs.declared.plan.Plan.{Plan}
 use Rattle.nb_base.specs.declared.host_line.Placed.{Placed}
 use Rattle.nb_journal.specs.Keys.{is_own}
 use Rattle.nb_journal.specs.Fold.{id_of, reply_of}
+use Rattle.nb_journal.specs.Accounts.{own_lines}
 use Rattle.nb_journal.specs.Lawful.{each_line}
 use Rattle.neigh_run.specs.Merged.{Entered}
-use Rattle.neigh_run.specs.Inline.{entered_line, own_lines, find_place, placed_at}
+use Rattle.neigh_run.specs.Inline.{entered_line, find_place, placed_at}
 use Rattle.neigh_plan.proofs.Orders.{count, count_append}
 use Rattle.neigh_run.proofs.Numbers.{has_id}
 

@@ -10,15 +10,14 @@ use Rattle.nb_base.specs.declared.plan.Plan.{Plan}
 use Rattle.nb_base.specs.declared.plan.SendItem.{SendItem}
 use Rattle.nb_base.specs.declared.plan.ControlItem.{ControlItem}
 use Rattle.nb_base.specs.declared.plan.ControlItem.TheVariants as control
-use Rattle.nb_journal.specs.Keys.{is_own, is_send}
-use Rattle.nb_journal.specs.Evaluated.{gives_settable}
+use Rattle.nb_journal.specs.Keys.{is_own, is_send, may_be_asked}
 use Rattle.neigh_script.specs.declared.script.Script.{Script}
 use Rattle.neigh_script.specs.Limits as limits
 use Rattle.neigh_run.specs.declared.run.Run.{Run}
 use Rattle.neigh_run.specs.Inline.{IsInlineRun, journal_at}
 use Rattle.neigh_run.specs.Control.{HostState, host_start, turn}
 use Rattle.neigh_run.specs.Merged.{Entered, control_ops, is_sending}
-use Rattle.neigh_run.specs.Plan.{IsWithinLimits, AreLists, send_at, plan_of}
+use Rattle.neigh_run.specs.Plan.{IsWithinLimits, AreSendLists, send_at, plan_of}
 use Rattle.neigh_run.specs.Report.{sent_count, fast_count, dropped_count, waiting_count}
 use Rattle.neigh_run.proofs.InlineFates.{inline_fates}
 use Rattle.neigh_plan.specs.Inline.{most_lines, is_given_op, has_given_ops}
@@ -26,9 +25,9 @@ use Rattle.neigh_plan.proofs.ScriptLimits.{one_bucket}
 use Rattle.neigh_plan.proofs.ScriptBounds.{script_params, script_upto, script_given}
 use Rattle.neigh_replay.proofs.Steps.{HasText, run_has_text}
 
-pub has_text : (script : Script) (window : ℕ) (plan : Plan) (run : Run) → plan ≡ plan_of script window 1 → limits.IsWithinLimits script → IsInlineRun plan run → length (journal_at run.journals 0) ≤ most_lines → HasText run
-has_text script window plan run is within inline short =
-    run_has_text (plan_of script window 1) run (script_params script window 1 within) (one_bucket script window) (script_upto script window 1 within) (script_given script window 1 within) (subst (λ (p : Plan). IsInlineRun p run) is inline) short
+pub has_text : (script : Script) (window : ℕ) (plan : Plan) (run : Run) → plan ≡ plan_of script window 1 → limits.IsWithinLimits script → IsWithinLimits plan → IsInlineRun plan run → length (journal_at run.journals 0) ≤ most_lines → HasText run
+has_text script window plan run is within plan_within inline short =
+    run_has_text (plan_of script window 1) run (script_params script window 1 within) (subst IsWithinLimits is plan_within) (one_bucket script window) (script_upto script window 1 within) (script_given script window 1 within) (subst (λ (p : Plan). IsInlineRun p run) is inline) short
 
 -- ---- how many packets
 
@@ -38,7 +37,7 @@ not_false true h = cc
 
 -- an operation that may be given is no packet
 given_none : (o : Op) → is_given_op o ≡ true → is_send o ≡ false
-given_none o h = not_false (is_send o) (and_parts (not (is_send o)) (gives_settable o) (and_parts (is_own o) (not (is_send o) && gives_settable o) h).1).0
+given_none o h = not_false (is_send o) (and_parts (not (is_send o)) (may_be_asked o) (and_parts (is_own o) (not (is_send o) && may_be_asked o) h).1).0
 
 quiet : (plan : Plan) (s : HostState) (n : ℕ) (items : List ControlItem) → list_all (λ (x : Entered). is_given_op x.op) (control_ops plan s n items) ≡ true → list_any is_sending items ≡ false
 quiet plan s n [] h = refl
@@ -53,10 +52,10 @@ still : (plan : Plan) → has_given_ops plan ≡ true → list_any is_sending pl
 unfolding has_given_ops
 still plan h = quiet plan host_start 1 plan.control h
 
-all_few : (senders : List (List SendItem)) → AreLists senders → sum_by length senders ≤ length senders * 131_072
+all_few : (senders : List (List SendItem)) → AreSendLists senders → sum_by length senders ≤ length senders * 131_072
 all_few [] h = omega arith
 all_few (items ∷ senders) h =
-    let here = subst (λ (n : ℕ). n ≤ 131_072) (length-map items send_at) h.0.few in
+    let here = subst (λ (n : ℕ). n ≤ 131_072) (length-map items send_at) h.0.list.few in
     let rest = all_few senders h.1 in
     let sum : sum_by length (items ∷ senders) ≡ length items + sum_by length senders = sum_by-cons length items senders in
     omega (arith, here, rest, sum)

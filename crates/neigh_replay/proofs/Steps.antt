@@ -6,13 +6,15 @@ use Rattle.nb_base.specs.declared.params.Params.{Params}
 use Rattle.nb_base.specs.declared.plan.Plan.{Plan}
 use Rattle.nb_base.specs.Params.{InRange}
 use Rattle.nud_machine.specs.Asked.{greatest}
-use Rattle.nb_journal.specs.Keys.{is_own}
+use Rattle.nb_journal.specs.Keys.{is_own, may_be_asked, may_all_be_asked}
+use Rattle.nb_journal.specs.Accounts.{own_lines}
 use Rattle.nb_journal.specs.Lawful.{last_moment}
-use Rattle.nb_journal.specs.Evaluated.{gives_settable, give_settable, IsShort, IsStepped}
-use Rattle.nb_journal.proofs.Decides.{and_both}
-use Rattle.nb_journal.proofs.Stepped.{lawful_stepped}
-use Rattle.neigh_run.specs.Inline.{own_lines, ends_own, entered_line, journal_at, IsInlineJournal, AreInlineJournals, IsInlineRun}
+use Rattle.nb_journal.specs.Steps.{IsShort, IsStepped}
+use Rattle.nb_journal.proofs.Tests.{and_both}
+use Rattle.nb_journal.proofs.Stepped.{orderly_stepped}
+use Rattle.neigh_run.specs.Inline.{ends_own, entered_line, journal_at, IsInlineJournal, AreInlineJournals, IsInlineRun}
 use Rattle.neigh_run.specs.declared.run.Run.{Run}
+use Rattle.neigh_run.specs.Plan.{IsWithinLimits}
 use Rattle.neigh_plan.specs.Inline.{most_lines, last_item_at, has_given_ops}
 use Rattle.neigh_plan.proofs.Orders.{Each}
 use Rattle.neigh_replay.proofs.Placed.{operations}
@@ -32,11 +34,11 @@ last_upto m (l ∷ next ∷ ls) e all = by_test (is_own l.op) all (λ rest. last
 
 -- ---- the operations
 
-taken_settable : (lines : List Line) → Each IsTaken (operations lines) → give_settable (own_lines lines) ≡ true
-taken_settable [] all = refl
-taken_settable (l ∷ ls) all = by_test (is_own l.op) all (λ rest. taken_settable ls rest) where
-  by_test : (b : Bool) → Each IsTaken (map entered_line (if b then l ∷ own_lines ls else own_lines ls)) → (Each IsTaken (operations ls) → give_settable (own_lines ls) ≡ true) → give_settable (if b then l ∷ own_lines ls else own_lines ls) ≡ true
-  by_test true h rest = and_both (gives_settable l.op) (give_settable (own_lines ls)) h.0.1 (rest h.1)
+taken_asked : (lines : List Line) → Each IsTaken (operations lines) → may_all_be_asked (own_lines lines) ≡ true
+taken_asked [] all = refl
+taken_asked (l ∷ ls) all = by_test (is_own l.op) all (λ rest. taken_asked ls rest) where
+  by_test : (b : Bool) → Each IsTaken (map entered_line (if b then l ∷ own_lines ls else own_lines ls)) → (Each IsTaken (operations ls) → may_all_be_asked (own_lines ls) ≡ true) → may_all_be_asked (if b then l ∷ own_lines ls else own_lines ls) ≡ true
+  by_test true h rest = and_both (may_be_asked l.op) (may_all_be_asked (own_lines ls)) h.0.1 (rest h.1)
   by_test false h rest = rest h
 
 -- ---- the run
@@ -52,20 +54,20 @@ record HasSteps (p : Params) (journals : List (List Line)) : Type 0 where
   few : AllByRecursion IsShort journals
   steps : AllByRecursion (IsStepped p) journals
 
-journal_steps : (plan : Plan) (journal : List Line) → plan.buckets ≡ 1 → last_item_at plan ≤ greatest → has_given_ops plan ≡ true → IsInlineJournal plan 0 journal → IsStepped plan.params journal
-journal_steps plan journal one le given h =
+journal_steps : (plan : Plan) (all : List (List Line)) (journal : List Line) → IsWithinLimits plan → plan.buckets ≡ 1 → last_item_at plan ≤ greatest → has_given_ops plan ≡ true → IsInlineJournal plan all 0 journal → IsStepped plan.params journal
+journal_steps plan others journal within one le given h =
     let all = h.entered ∙ merged_for-one plan one in
     let last = last_upto (last_item_at plan) journal h.ends (subst (Each (IsUpTo (last_item_at plan))) (sym all) (early_merged plan)) in
-    lawful_stepped plan.params journal (last_moment journal) h.lawful (omega (arith, last, le)) (taken_settable journal (subst (Each IsTaken) (sym all) (taken_merged plan given)))
+    orderly_stepped plan.params journal h.lawful.orderly (omega (arith, last, le)) (taken_asked journal (subst (Each IsTaken) (sym all) (taken_merged plan within given)))
 
-one_journal : (plan : Plan) (journals : List (List Line)) → plan.buckets ≡ 1 → last_item_at plan ≤ greatest → has_given_ops plan ≡ true → length journals ≡ 1 → AreInlineJournals plan 0 journals → length (journal_at journals 0) ≤ most_lines → HasSteps plan.params journals
-one_journal plan [] one le given long h few = absurd (omega (arith, long))
-one_journal plan (journal ∷ []) one le given long h few = record { few = (omega (arith, few), tt); steps = (journal_steps plan journal one le given h.0, tt) }
-one_journal plan (journal ∷ other ∷ more) one le given long h few = absurd (omega (arith, long))
+one_journal : (plan : Plan) (all journals : List (List Line)) → IsWithinLimits plan → plan.buckets ≡ 1 → last_item_at plan ≤ greatest → has_given_ops plan ≡ true → length journals ≡ 1 → AreInlineJournals plan all 0 journals → length (journal_at journals 0) ≤ most_lines → HasSteps plan.params journals
+one_journal plan all [] within one le given long h few = absurd (omega (arith, long))
+one_journal plan all (journal ∷ []) within one le given long h few = record { few = (omega (arith, few), tt); steps = (journal_steps plan all journal within one le given h.0, tt) }
+one_journal plan all (journal ∷ other ∷ more) within one le given long h few = absurd (omega (arith, long))
 
-pub run_has_text : (plan : Plan) (run : Run) → InRange plan.params → plan.buckets ≡ 1 → last_item_at plan ≤ greatest → has_given_ops plan ≡ true → IsInlineRun plan run → length (journal_at run.journals 0) ≤ most_lines → HasText run
-run_has_text plan run r one le given inline few =
-    let has = one_journal plan run.journals one le given (inline.buckets ∙ one) inline.journals few in
+pub run_has_text : (plan : Plan) (run : Run) → InRange plan.params → IsWithinLimits plan → plan.buckets ≡ 1 → last_item_at plan ≤ greatest → has_given_ops plan ≡ true → IsInlineRun plan run → length (journal_at run.journals 0) ≤ most_lines → HasText run
+run_has_text plan run r within one le given inline few =
+    let has = one_journal plan run.journals run.journals within one le given (inline.buckets ∙ one) inline.journals few in
     record {
       params = subst (λ (p : Plan). InRange p.params) (sym inline.plan) r;
       few = has.few;

@@ -1,6 +1,6 @@
 -- The operations of a plan in merged order are such as a bucket takes: early enough, own, with states that may be given, and by moment.
 use Rattle.std.proofs.Common.{◌≡◌, ℕ, zero, suc, ◌+◌, ◌<◌, ◌≤◌, true, List, [], ◌∷◌, ◌++◌, length, map, take, get_or, Option, Some, None, refl, sym, ◌∙◌, ap, subst, arith}
-use Rattle.std.specs.Prelude.{◌&&◌, not, flat_map, Result, Err}
+use Rattle.std.specs.Prelude.{◌&&◌, not, nat_le, flat_map, Result, Err}
 use Rattle.std.specs.List.{list_all, AllByRecursion}
 use Rattle.std.proofs.lemmas.Bool.{and_parts}
 use Rattle.std.proofs.lemmas.List.{length-map}
@@ -11,17 +11,17 @@ use Rattle.nb_base.specs.declared.plan.Plan.{Plan}
 use Rattle.nb_base.specs.declared.plan.SendItem.{SendItem}
 use Rattle.nb_base.specs.declared.plan.ControlItem.{ControlItem}
 use Rattle.nud_machine.specs.Asked.{greatest}
-use Rattle.nb_journal.specs.Keys.{is_own, is_send}
-use Rattle.nb_journal.specs.Evaluated.{gives_settable}
+use Rattle.nb_journal.specs.Keys.{is_own, is_send, may_be_asked}
 use Rattle.nb_journal.specs.Lawful.{last_moment}
 use Rattle.nb_journal.specs.Accounts.{line_bound}
 use Rattle.neigh_run.specs.Control.{HostState, host_start, turn}
 use Rattle.neigh_run.specs.Merged.{Entered, control_ops, sender_ops, senders_ops, merged}
-use Rattle.neigh_run.specs.Plan.{RisesFrom, control_at, send_at}
+use Rattle.neigh_run.specs.Plan.{RisesFrom, IsPacket, AreSendLists, IsWithinLimits, control_at, send_at}
 use Rattle.neigh_replay.specs.declared.fail.ReplayFail.{ReplayFail}
 use Rattle.neigh_plan.specs.Inline.{most_lines, greatest_of, last_item_at, is_given_op, has_given_ops, plan_bound}
 use Rattle.neigh_plan.specs.Merging.{line_of, lines_of, line_at}
 use Rattle.neigh_replay.specs.Answered.{IsTask}
+use Rattle.nb_journal.proofs.Tests.{and_both, le_to}
 use Rattle.neigh_run.proofs.Numbers.{own_op}
 use Rattle.neigh_plan.proofs.Orders.{Each, each_append, each_all}
 
@@ -70,39 +70,39 @@ early_merged plan =
 
 -- an operation that a bucket takes
 abbrev pub IsTaken : Entered → Type 0
-IsTaken x = (is_own x.op ≡ true) × (gives_settable x.op ≡ true)
+IsTaken x = (is_own x.op ≡ true) × (may_be_asked x.op ≡ true)
 
-given_parts : (o : Op) → is_given_op o ≡ true → (is_own o ≡ true) × (gives_settable o ≡ true)
+given_parts : (o : Op) → is_given_op o ≡ true → (is_own o ≡ true) × (may_be_asked o ≡ true)
 given_parts o h =
-    let parts = and_parts (is_own o) (not (is_send o) && gives_settable o) h in
-    (parts.0, (and_parts (not (is_send o)) (gives_settable o) parts.1).1)
+    let parts = and_parts (is_own o) (not (is_send o) && may_be_asked o) h in
+    (parts.0, (and_parts (not (is_send o)) (may_be_asked o) parts.1).1)
 
 given_each : (xs : List Entered) → list_all (λ x. is_given_op x.op) xs ≡ true → Each IsTaken xs
 given_each [] h = tt
 given_each (x ∷ xs) h = let parts = and_parts (is_given_op x.op) (list_all (λ y. is_given_op y.op) xs) h in (given_parts x.op parts.0, given_each xs parts.1)
 
-taken_sender : (p n : ℕ) (items : List SendItem) → Each IsTaken (sender_ops p n items)
-taken_sender p n [] = tt
-taken_sender p n (x ∷ xs) = ((refl, refl), taken_sender p (n + 1) xs)
+taken_sender : (p n : ℕ) (items : List SendItem) → AllByRecursion IsPacket items → Each IsTaken (sender_ops p n items)
+taken_sender p n [] h = tt
+taken_sender p n (x ∷ xs) h = ((refl, and_both (nat_le 1 (length x.payload)) (nat_le (length x.payload) 1_500) (le_to 1 (length x.payload) h.0.0) (le_to (length x.payload) 1_500 h.0.1)), taken_sender p (n + 1) xs h.1)
 
-taken_senders : (p : ℕ) (senders : List (List SendItem)) → Each IsTaken (senders_ops p senders)
-taken_senders p [] = tt
-taken_senders p (items ∷ rest) = each_append IsTaken (sender_ops p 1 items) (senders_ops (p + 1) rest) (taken_sender p 1 items) (taken_senders (p + 1) rest)
+taken_senders : (p : ℕ) (senders : List (List SendItem)) → AreSendLists senders → Each IsTaken (senders_ops p senders)
+taken_senders p [] h = tt
+taken_senders p (items ∷ rest) h = each_append IsTaken (sender_ops p 1 items) (senders_ops (p + 1) rest) (taken_sender p 1 items h.0.packets) (taken_senders (p + 1) rest h.1)
 
-pub taken_merged : (plan : Plan) → has_given_ops plan ≡ true → Each IsTaken (merged plan)
+pub taken_merged : (plan : Plan) → IsWithinLimits plan → has_given_ops plan ≡ true → Each IsTaken (merged plan)
 unfolding has_given_ops
-taken_merged plan h =
+taken_merged plan within h =
     each_all IsTaken [] (control_ops plan host_start 1 plan.control ++ senders_ops 1 plan.senders) tt
-    (each_append IsTaken (control_ops plan host_start 1 plan.control) (senders_ops 1 plan.senders) (given_each (control_ops plan host_start 1 plan.control) h) (taken_senders 1 plan.senders))
+    (each_append IsTaken (control_ops plan host_start 1 plan.control) (senders_ops 1 plan.senders) (given_each (control_ops plan host_start 1 plan.control) h) (taken_senders 1 plan.senders within.senders))
 
 -- ---- their lines
 
 tasks_of : (m : ℕ) (xs : List Entered) → m ≤ greatest → Each (IsUpTo m) xs → Each IsTaken xs → AllByRecursion IsTask (lines_of xs)
 tasks_of m [] le early taken = tt
-tasks_of m (x ∷ xs) le early taken = let at = early.0 in (record { now = omega (arith, at, le); own = taken.0.0; settable = taken.0.1 }, tasks_of m xs le early.1 taken.1)
+tasks_of m (x ∷ xs) le early taken = let at = early.0 in (record { now = omega (arith, at, le); own = taken.0.0; asked = taken.0.1 }, tasks_of m xs le early.1 taken.1)
 
-pub tasks_merged : (plan : Plan) → last_item_at plan ≤ greatest → has_given_ops plan ≡ true → AllByRecursion IsTask (lines_of (merged plan))
-tasks_merged plan le h = tasks_of (last_item_at plan) (merged plan) le (early_merged plan) (taken_merged plan h)
+pub tasks_merged : (plan : Plan) → IsWithinLimits plan → last_item_at plan ≤ greatest → has_given_ops plan ≡ true → AllByRecursion IsTask (lines_of (merged plan))
+tasks_merged plan within le h = tasks_of (last_item_at plan) (merged plan) le (early_merged plan) (taken_merged plan within h)
 
 -- a line no later than a moment
 abbrev pub LineIsUpTo : ℕ → Line → Type 0

@@ -1,21 +1,20 @@
 -- The files give one verdict: two that are given have one status.
-use Rattle.std.proofs.Common.{◌≡◌, ◌≢◌, ℕ, ◌<◌, ◌≤◌, Bool, true, false, List, [], ◌∷◌, length, Option, Some, None, refl, sym, ap, subst, ◌∙◌, arith, inl, inr}
+use Rattle.std.proofs.Common.{◌≡◌, ◌≢◌, ℕ, ◌<◌, ◌≤◌, Bool, true, false, List, [], length, Option, Some, None, refl, sym, ap, ◌∙◌}
 use Rattle.std.specs.Prelude.{◌&&◌, ◌==◌, is_none, if◌then◌else◌, nat_le, Result, Ok, Err}
 use Rattle.std.proofs.lemmas.Bool.{and_parts, eqb-true, lt-leb}
-use Rattle.nb_journal.proofs.Decides.{le_to}
+use Rattle.nb_journal.proofs.Tests.{le_to}
 use Rattle.nb_base.specs.declared.plan.Mode.{Mode}
 use Rattle.nb_base.specs.declared.plan.Mode.TheVariants as mode
 use Rattle.nb_base.specs.declared.plan.Plan.{Plan}
 use Rattle.pcap_records.specs.declared.capture.Rec.{Rec}
 use Rattle.neigh_script.specs.declared.script.Script.{Script}
 use Rattle.neigh_script.specs.declared.why.ScriptFail.{ScriptFail}
-use Rattle.neigh_script.specs.declared.why.ScriptFail.TheVariants as script_fail
 use Rattle.neigh_script.specs.Lines.{script_of}
 use Rattle.neigh_run.specs.Plan.{plan_of, is_replayed}
 use Rattle.neigh_words.specs.Settings.{Asked}
 use Rattle.neigh_plan.specs.Inline.{most_lines, plan_bound}
 use Rattle.neigh_plan.specs.Files.{plan_of_files}
-use Rattle.neigh_replay.specs.Verdict.{Verdict, NotBuilt, TooLong, CaptureRefused, ScriptRefused, TooLarge, Report, Held, Gives, not_asked, script_long, capture_long, capture_refused, script_refused, not_replayed, too_large, report, IsCaptureFile, HasRecords, HavePlan, is_inline, is_built, script_limit, status_of}
+use Rattle.neigh_replay.specs.Verdict.{Verdict, Held, Gives, not_asked, script_long, capture_long, capture_refused, script_refused, not_replayed, too_large, report, IsCaptureFile, HasRecords, HavePlan, is_inline, is_built, script_limit, status_of}
 
 is_nothing : {A : Type 0} (o : Option A) → is_none o ≡ true → o ≡ None
 is_nothing None e = refl

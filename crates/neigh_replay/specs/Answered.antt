@@ -11,13 +11,14 @@ use Rattle.nb_base.specs.declared.plan.Plan.{Plan}
 use Rattle.nb_base.specs.declared.host_line.HostLine.{HostLine}
 use Rattle.nb_base.specs.declared.host_line.HostLine.TheVariants as host_line
 use Rattle.nud_machine.specs.Asked.{greatest}
-use Rattle.nb_journal.specs.Keys.{is_own}
-use Rattle.nb_journal.specs.Fold.{id_of, reply_of}
-use Rattle.nb_journal.specs.Evaluated.{gives_settable}
-use Rattle.nb_journal.specs.Lawful.{IsLawful, last_moment}
+use Rattle.nb_journal.specs.Keys.{is_own, may_be_asked}
+use Rattle.nb_journal.specs.Fold.{id_of, reply_of, present_count}
+use Rattle.nb_journal.specs.Lawful.{EachLine, IsLawful, last_moment}
+use Rattle.nb_journal.specs.Accounts.{own_lines}
+use Rattle.nb_journal.specs.Laws.{Saw}
 use Rattle.nb_bucket.specs.Bucket.{Journal}
 use Rattle.neigh_run.specs.declared.run.Run.{Run}
-use Rattle.neigh_run.specs.Inline.{entered_line, own_lines, ends_own}
+use Rattle.neigh_run.specs.Inline.{entered_line, ends_own}
 use Rattle.neigh_replay.specs.declared.answers.Answer.{Answer}
 use Rattle.neigh_plan.specs.Inline.{most_lines}
 
@@ -36,9 +37,9 @@ answers_behind p past (line ∷ lines) = (if is_own line.op then answer_to p pas
 pub record IsTask (line : Line) : Type 0 where
   pub now : line.at ≤ greatest
   pub own : is_own line.op ≡ true
-  pub settable : gives_settable line.op ≡ true
+  pub asked : may_be_asked line.op ≡ true
 
--- the operations of the lines, and no other, were entered into a bucket, at their moments, with these answers
+-- the operations of the lines, and no other, were entered into a bucket, at their moments, with these answers; each line that looked saw the entries of this bucket
 pub record HasEntered (lines : List Line) (bucket : Journal) (answers : List Answer) : Type 0 where
   pub limit : bucket.limit ≡ most_lines
   pub clock : bucket.clock ≡ last_moment bucket.lines
@@ -46,6 +47,7 @@ pub record HasEntered (lines : List Line) (bucket : Journal) (answers : List Ans
   pub lawful : IsLawful bucket.params bucket.lines bucket.clock
   pub ends : ends_own bucket.lines ≡ true
   pub entered : map entered_line (own_lines bucket.lines) ≡ map entered_line lines
+  pub saw : EachLine (Saw (present_count bucket.params)) bucket.lines
   pub answered : answers ≡ answers_behind bucket.params [] bucket.lines
 
 -- ---- the run

@@ -1,7 +1,6 @@
 -- What the failures of a replay stand for. Nothing here is a definition to believe: it says what the parts of the code give, from which the whole of a replay is proved.
-use Rattle.std.specs.Prelude.{◌≡◌, ℕ, ◌<◌, ◌≤◌, true, false, List, [], length, take, Ok, Err}
+use Rattle.std.specs.Prelude.{◌≡◌, ℕ, ◌<◌, ◌≤◌, true, false, List, length, take, Ok, Err}
 use Rattle.neigh_script.specs.declared.script.Script.{Script}
-use Rattle.neigh_script.specs.declared.why.ScriptWhy.{ScriptWhy}
 use Rattle.neigh_script.specs.declared.why.ScriptFail.TheVariants as script_fail
 use Rattle.neigh_script.specs.Lines.{script_of}
 use Rattle.neigh_run.specs.declared.run.Run.{Run}

@@ -11,6 +11,7 @@ ghost use Rattle.neigh_replay.specs.Answered.{IsTask, HasEntered};
 use crate::fail::ReplayFail;
 use nb_base::{Items, Line, Moment, OpId, Reply};
 use nb_bucket::{Bucket, BucketFail};
+use nb_census::PlainCensus;
 use nb_journal::id_of;
 use std::alloc::Global;
 
@@ -23,7 +24,8 @@ pub struct Answer {
     pub reply: Reply,
 }
 
-/// Enters the operation of a line that doesn't lie before the bucket's clock, and appends what is answered.
+/// Enters the operation of a line that doesn't lie before the bucket's clock, and appends what is answered. The bucket is the whole
+/// table, so its census tells that the others hold nothing.
 /// Without room for what comes next, the line bound is at least 2^22.
 fn enter_next(
     alloc: Global,
@@ -40,7 +42,9 @@ fn enter_next(
         → line.now.at ≤ moment → length before < operations → most_lines ≤ line_bound bucket.old.params operations moment }
 {
     let id = id_of(line);
-    match bucket.enter(alloc, line.at, id, line.op) {
+    let present = bucket.present();
+    let mut census = PlainCensus::new(present, present);
+    match bucket.enter(alloc, &mut census, line.at, id, line.op) {
         Ok((place, reply)) => {
             answers.push(Answer {
                 id,

@@ -12,13 +12,10 @@ ghost use Rattle.neigh_replay.specs.Answered.{IsNumbered};
 use crate::answers::{Answer, enter_all};
 use crate::fail::ReplayFail;
 use nb_base::{HostLine, Items, Journals, Line, Log, Mode, OpId, Outcome, Placed, Plan, Why};
-use nb_bucket::Bucket;
+use nb_bucket::{Bucket, MOST_LINES};
 use neigh_plan::merged_lines;
 use neigh_run::Run;
 use std::alloc::{AllocError, Global};
-
-/// The most lines of a journal: 2^22.
-const MOST_LINES: u32 = 4_194_304;
 
 fn is_to(participant: u32, answer: &Answer) -> bool
     ensures { result ≡ by.is_to participant answer.now }
@@ -137,8 +134,8 @@ fn run_with(
     })
 }
 
-/// The inline run of a plan with one bucket, each participant's items in order and no more than a script has lines, and at most 16 senders.
-/// Its operations are entered into a bucket in merged order. The run's journal has at most 2^22 lines.
+/// The inline run of a plan with one bucket, each participant's items in order and no more than a script has lines, at most 16 senders, and
+/// packets of 1 to 1,500 bytes. Its operations are entered into a bucket in merged order. The run's journal has at most 2^22 lines.
 ///
 /// # Errors
 /// `TooLarge` where the next lines don't fit into 2^22 lines, which comes only where the plan's line bound is at least 2^22; and want of memory.
@@ -153,19 +150,8 @@ pub fn replay_inline(alloc: Global, plan: Plan) -> Result<Run, ReplayFail>
     ensures too_large { result ≡ Err ReplayFail.TooLarge → most_lines ≤ plan_bound plan }
 {
     let lines = merged_lines(alloc, &plan)?;
-    let mut bucket = new_bucket(alloc, &plan)?;
+    let mut bucket = Bucket::new(alloc, &plan.params, &plan.host, MOST_LINES)?;
     let answers = enter_all(alloc, &mut bucket, lines.as_slice())?;
     let run = run_with(alloc, plan, bucket.lines(), answers.as_slice())?;
     Ok(run)
-}
-
-/// An empty bucket for the plan.
-fn new_bucket(alloc: Global, plan: &Plan) -> Result<Bucket, AllocError>
-    requires { InRange plan.now.params }
-    ensures { IfOk result (λ bucket. bucket ≡ record { params = plan.now.params; limit = most_lines; lines = []; clock = 0 }) }
-{
-    match Bucket::new(alloc, &plan.params, &plan.host, MOST_LINES) {
-        Ok(bucket) => Ok(bucket),
-        Err(_) => Err(AllocError),
-    }
 }

@@ -15,10 +15,10 @@ use Rattle.neigh_replay.proofs.InlineRuns.{numbered_all, made_inline}
 use Rattle.neigh_replay.proofs.inline.replay_inline.Goals as goal
 
 pub enter_all-requires-clause-new : goal.enter_all-requires-clause-new
-enter_all-requires-clause-new c = subst (λ (j : Journal). HasEntered [] j []) (sym c.in_ok-bucket.ensures) (entered_none c.args.plan.params c.requires.params)
+enter_all-requires-clause-new c = subst (λ (j : Journal). HasEntered [] j []) (sym c.in_ok-bucket.ensures.made) (entered_none c.args.plan.params c.requires.params)
 
 pub enter_all-requires-clause-tasks : goal.enter_all-requires-clause-tasks
-enter_all-requires-clause-tasks c = subst (AllByRecursion IsTask) (sym (c.as_slice.ensures ∙ c.in_ok-lines.ensures.value)) (tasks_merged c.args.plan c.requires.moments c.requires.operations)
+enter_all-requires-clause-tasks c = subst (AllByRecursion IsTask) (sym (c.as_slice.ensures ∙ c.in_ok-lines.ensures.value)) (tasks_merged c.args.plan c.requires.within c.requires.moments c.requires.operations)
 
 pub enter_all-requires-clause-by_moment : goal.enter_all-requires-clause-by_moment
 enter_all-requires-clause-by_moment c = subst AreByMoment (sym (c.as_slice.ensures ∙ c.in_ok-lines.ensures.value)) (in_order c.args.plan c.requires.within).rises
@@ -27,7 +27,7 @@ pub returns-in_err-answers-clause-too_large : goal.returns-in_err-answers-clause
 returns-in_err-answers-clause-too_large c e =
     let p = err_from_is_err_and c.from_residual-in_err-answers.result c.from_residual-in_err-answers.ensures.1 in
     let large = sym p.2 ∙ same_fail c.from_residual-in_err-answers.result p.0 TooLarge p.1 e in
-    bound_for c.args.plan c.in_ok-bucket.bucket.params c.as_slice.result.now (ap (λ (j : Journal). j.params) c.in_ok-bucket.ensures) (c.as_slice.ensures ∙ c.in_ok-lines.ensures.value)
+    bound_for c.args.plan c.in_ok-bucket.bucket.params c.as_slice.result.now (ap (λ (j : Journal). j.params) c.in_ok-bucket.ensures.made) (c.as_slice.ensures ∙ c.in_ok-lines.ensures.value)
     (c.in_err-answers.ensures.too_large (last_item_at c.args.plan) (ap Err large) (subst (AllByRecursion (LineIsUpTo (last_item_at c.args.plan))) (sym (c.as_slice.ensures ∙ c.in_ok-lines.ensures.value)) (upto_merged c.args.plan)))
 
 pub run_with-requires-clause-numbered : goal.run_with-requires-clause-numbered
@@ -37,6 +37,6 @@ run_with-requires-clause-numbered c =
 
 pub returns-clause-run : goal.returns-clause-run
 returns-clause-run c =
-    made_inline c.args.plan c.enter_all.new.bucket c.in_ok-answers.answers c.in_ok-run.run' c.requires.one_bucket c.requires.within (c.in_ok-answers.ensures.params ∙ ap (λ (j : Journal). j.params) c.in_ok-bucket.ensures)
+    made_inline c.args.plan c.enter_all.new.bucket c.in_ok-answers.answers c.in_ok-run.run' c.requires.one_bucket c.requires.within (c.in_ok-answers.ensures.params ∙ ap (λ (j : Journal). j.params) c.in_ok-bucket.ensures.made)
     (subst (λ (ls : List Line). HasEntered ls c.enter_all.new.bucket c.in_ok-answers.answers) (c.as_slice.ensures ∙ c.in_ok-lines.ensures.value) c.in_ok-answers.ensures.entered)
     (c.in_ok-run.ensures ∙ ap (λ (ls : List Line). run_by c.args.plan ls c.as_slice-2.result.now) c.lines-2.ensures.lines ∙ ap (run_by c.args.plan c.enter_all.new.bucket.lines) c.as_slice-2.ensures)

@@ -37,10 +37,10 @@ returns-in_err-run-clause-never_too_large c e =
     never_too_large c.args.script.now c.args.window c.requires.within c.requires.few (subst (λ (plan : Plan). most_lines ≤ plan_bound plan) c.in_ok-plan.ensures.value (c.in_err-run.ensures.too_large (ap Err large)))
 
 pub text-requires-clause-params : goal.text-requires-clause-params
-text-requires-clause-params c = (has_text c.args.script.now c.args.window c.in_ok-plan.plan c.in_ok-run.run' c.in_ok-plan.ensures.value c.requires.within c.in_ok-run.ensures.run c.in_ok-run.ensures.short).params
+text-requires-clause-params c = (has_text c.args.script.now c.args.window c.in_ok-plan.plan c.in_ok-run.run' c.in_ok-plan.ensures.value c.requires.within (c.in_ok-plan.ensures.within (script_within c.args.script.now c.requires.within c.requires.few)) c.in_ok-run.ensures.run c.in_ok-run.ensures.short).params
 
 pub text-requires-clause-few : goal.text-requires-clause-few
-text-requires-clause-few c = (has_text c.args.script.now c.args.window c.in_ok-plan.plan c.in_ok-run.run' c.in_ok-plan.ensures.value c.requires.within c.in_ok-run.ensures.run c.in_ok-run.ensures.short).few
+text-requires-clause-few c = (has_text c.args.script.now c.args.window c.in_ok-plan.plan c.in_ok-run.run' c.in_ok-plan.ensures.value c.requires.within (c.in_ok-plan.ensures.within (script_within c.args.script.now c.requires.within c.requires.few)) c.in_ok-run.ensures.run c.in_ok-run.ensures.short).few
 
 pub text-requires-clause-steps : goal.text-requires-clause-steps
-text-requires-clause-steps c = (has_text c.args.script.now c.args.window c.in_ok-plan.plan c.in_ok-run.run' c.in_ok-plan.ensures.value c.requires.within c.in_ok-run.ensures.run c.in_ok-run.ensures.short).steps
+text-requires-clause-steps c = (has_text c.args.script.now c.args.window c.in_ok-plan.plan c.in_ok-run.run' c.in_ok-plan.ensures.value c.requires.within (c.in_ok-plan.ensures.within (script_within c.args.script.now c.requires.within c.requires.few)) c.in_ok-run.ensures.run c.in_ok-run.ensures.short).steps
