@@ -39,6 +39,11 @@ writer_more old id v w p next shown same is spelled was =
     ∙ (ap (λ (r : Record). (let s : WriterShown = record (writer_of old v) { published = map record_of v.published ++ r ∷ [] } in s)) spelled
     ∙ ap (λ (s : WriterShown). record s { published = s.published ++ next ∷ [] }) was)))
 
+-- the cell of a pass
+pub pass_cell : (id : TableId) (o : Option Reading) (pass : PassShown) → pass_of id o ≡ pass → id ≡ pass.cell
+pass_cell id None pass e = ap (λ (p : PassShown). p.cell) e
+pass_cell id (Some r) pass e = ap (λ (p : PassShown). p.cell) e
+
 -- a known pair as a record
 known_all : (published : List (ℕ × ℕ)) (known : List (ℕ × (ℕ × ℕ))) → All (λ (k : ℕ × (ℕ × ℕ)). slice_get published k.0 ≡ Some k.1) known → All (λ (k : ℕ × Record). slice_get (map record_of published) k.0 ≡ Some k.1) (map known_record known)
 known_all published [] h = All-nil (λ (k : ℕ × Record). slice_get (map record_of published) k.0 ≡ Some k.1)

@@ -82,6 +82,20 @@ pub enum Obtained {
     Again { tries: [Try; 4] },
 }
 
+impl Obtained {
+    /// What a good try gives that read this record.
+    pub fn of_record(number: u64, found: Record) -> Obtained
+        ensures { ObtainedOf number found result }
+    {
+        let header = found.header;
+        if found.usable {
+            Obtained::Fresh { number, header }
+        } else {
+            Obtained::Suspect { number }
+        }
+    }
+}
+
 impl Cell {
     /// A cell whose first record, of number 0, this is.
     pub fn new(alloc: Global, first: Record) -> Result<(Cell, Writer), AllocError>
@@ -189,22 +203,10 @@ impl Cell {
         let mut tries = [(0, 0); 4];
         for place in 0..4 {
             match self.try_once(pass) {
-                Ok((number, found)) => return of_record(number, found),
+                Ok((number, found)) => return Obtained::of_record(number, found),
                 Err(failed) => tries[place] = failed,
             }
         }
         Obtained::Again { tries }
-    }
-}
-
-/// What a good try gives.
-fn of_record(number: u64, found: Record) -> Obtained
-    ensures { ObtainedOf number found result }
-{
-    let header = found.header;
-    if found.usable {
-        Obtained::Fresh { number, header }
-    } else {
-        Obtained::Suspect { number }
     }
 }

@@ -13,3 +13,4 @@ pub use cell::{Cell, Obtained, Pass, Writer};
 pub use hold::Hold;
 pub use laws::steps_of_the_lock;
 pub use store::{OpenStepGate, StepGate};
+pub use view::{Reading, View};

@@ -6,18 +6,18 @@ use std::sync::Arc;
 use std::test::Fail;
 use std::thread::{Threads, join_mut};
 
-const HEADER: [u8; 14] = [0, 0x11, 0x22, 0x33, 0x44, 0x55, 2, 0, 0, 0, 0, 2, 8, 0];
+pub const HEADER: [u8; 14] = [0, 0x11, 0x22, 0x33, 0x44, 0x55, 2, 0, 0, 0, 0, 2, 8, 0];
 
 const PUBLICATIONS: u64 = 10_000;
 
-fn unusable() -> Record {
+pub fn unusable() -> Record {
     Record {
         usable: false,
         header: [0; 14],
     }
 }
 
-fn usable(header: [u8; 14]) -> Record {
+pub fn usable(header: [u8; 14]) -> Record {
     Record {
         usable: true,
         header,
@@ -49,7 +49,8 @@ impl<'a> StepGate for Watching<'a> {
 #[test]
 fn reader_between_the_writers_steps(rt: HostRuntime) -> Result<(), Fail> {
     let (cell, mut writer) = Cell::new(rt.alloc(), unusable())?;
-    let pass = cell.leave(&mut writer);
+    let mut pass = cell.leave(&mut writer);
+    assert_eq!(rt; cell.obtain(&mut pass), Obtained::Suspect { number: 0 });
     let mut gate = Watching {
         cell: &cell,
         pass,
@@ -115,16 +116,20 @@ fn publish_all(cell: &Cell, writer: &mut Writer)
     }
 }
 
-// Whether each record that was read has the header of its number, and no number lies below one before it.
+// Whether each record that was read is the one of its number, and no number lies below one before it.
 fn reads_what_was_published(cell: &Cell, pass: &mut Pass) -> bool
     requires { pass.old.cell ≡ cell.now }
 {
     let mut last = 0;
     let mut right = true;
     for _turn in 0..PUBLICATIONS {
-        if let Obtained::Fresh { number, header } = cell.obtain(pass) {
-            right = right && last <= number && header == header_of(number);
-            last = number;
+        match cell.obtain(pass) {
+            Obtained::Fresh { number, header } => {
+                right = right && 0 < number && last <= number && header == header_of(number);
+                last = number;
+            }
+            Obtained::Suspect { number } => right = right && last == 0 && number == 0,
+            Obtained::Again { .. } => {}
         }
     }
     right

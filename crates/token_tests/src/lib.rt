@@ -6,4 +6,6 @@ mod cells;
 #[cfg(test)]
 mod census;
 #[cfg(test)]
+mod forms;
+#[cfg(test)]
 mod stamps;

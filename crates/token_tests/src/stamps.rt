@@ -31,6 +31,7 @@ fn line_of(at: u64, id: Option<OpId>, op: Op) -> Line
         at: Moment(at),
         id,
         op,
+        seen: None,
         full: None,
     }
 }

@@ -1,20 +1,14 @@
-use Rattle.std.proofs.Common.{◌≡◌, true, Option, Some, None, IfSome, ap, sym, subst, ◌∙◌, arith}
+use Rattle.std.proofs.Common.{◌≡◌, true, IfSome, ap, sym, subst, ◌∙◌, arith}
 use Rattle.hh_core.specs.declared.step.WriterPhase.TheVariants.{Idle}
 use Rattle.hh_core.specs.declared.reader.ReaderPhase.TheVariants.{Rest}
 use Rattle.hh_cell.specs.Kept.{LookTells}
-use Rattle.atomic_table.specs.Seated.{TableId}
 use Rattle.hh_cell.specs.declared.view.View.{View}
 use Rattle.hh_cell.specs.declared.view.Reading.{Reading}
-use Rattle.hh_cell.specs.Shown.{PassShown, pass_of}
 use Rattle.hh_cell.proofs.Lists.{if_some_is}
 use Rattle.hh_cell.proofs.Seats.{reader_there}
 use Rattle.hh_cell.proofs.Meets.{lodges, looks}
-use Rattle.hh_cell.proofs.Passes.{agrees_shown}
+use Rattle.hh_cell.proofs.Passes.{pass_cell, agrees_shown}
 use Rattle.hh_cell.proofs.cell.Cell.lodge.Goals as goal
-
-pass_cell : (id : TableId) (o : Option Reading) (pass : PassShown) → pass_of id o ≡ pass → id ≡ pass.cell
-pass_cell id None pass e = ap (λ (p : PassShown). p.cell) e
-pass_cell id (Some r) pass e = ap (λ (p : PassShown). p.cell) e
 
 pub join_seat-requires : goal.join_seat-requires
 join_seat-requires c =

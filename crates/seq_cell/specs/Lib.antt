@@ -1,0 +1,3 @@
+pub mod Held
+pub mod Tokens
+pub mod Obtaining
