@@ -8,10 +8,11 @@ use neigh_script::{Script, read};
 use std::alloc::Global;
 use std::test::Fail;
 
-/// Two packets go to a permanent entry. Of four to an address that never answers one is dropped by the full queue and three with the last probe,
-/// and one to another such address still waits.
+/// Two packets go to a permanent entry. Of four to an address that never answers one is dropped as the bytes that may wait are too few, and three
+/// with the last probe, and one to another such address still waits.
 const SEVEN_PACKETS: &str = "\
 host dev eth0 lladdr 02:00:00:00:00:02 inet 10.0.0.2
+param unres_qlen_bytes 800
 @0 neigh add 10.0.0.5 lladdr 00:11:22:33:44:55
 @0 send 1 10.0.0.1 01
 @0 send 1 10.0.0.1 02

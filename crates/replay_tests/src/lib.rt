@@ -13,3 +13,5 @@ mod reports;
 mod script_language;
 #[cfg(test)]
 mod scripts;
+#[cfg(test)]
+mod two_buckets;

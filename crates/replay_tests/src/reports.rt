@@ -1,11 +1,11 @@
 ghost use Rattle.std.specs.Prelude.{◌≡◌, [], IfOk};
 ghost use Rattle.nb_base.specs.Params.{InRange};
 
+use journal_check::is_evaluable;
 use nb_base::{
     Bytes, Class, ControlItem, Host, HostLine, Items, Key, Line, Log, Mac, Mark, Mode, Moment,
     Name, Nud, Op, OpId, Outcome, Params, Placed, Plan, Reply, SendItem, Why,
 };
-use nb_journal::is_evaluable;
 use neigh_report::{Fates, fates, text};
 use neigh_run::Run;
 use std::alloc::{AllocError, Global};
@@ -73,7 +73,7 @@ host lines 4
 sender 1 items 4
 1 5 fast 2 00112233445502000000000208004500
 2 5 suspect 3 0 noprobes
-3 5 again 1/2 3/4 5/6 7/8 1 waits dropping 33
+3 5 again 1/2 3/4 5/6 7/8 1 waits dropping 2
 4 5 first 9 sent
 marks 2
 mark 50 1
@@ -115,11 +115,11 @@ proxies 0
 end
 ";
 
-fn bytes(alloc: Global, bytes: &[u8]) -> Result<Bytes, AllocError> {
+pub fn bytes(alloc: Global, bytes: &[u8]) -> Result<Bytes, AllocError> {
     Ok(Items::from_vec(Vec::from_slice(alloc, bytes)?))
 }
 
-fn host() -> Option<Host> {
+pub fn host() -> Option<Host> {
     Some(Host {
         dev: Name::read(b"eth0")?,
         mac: Mac([0x02, 0, 0, 0, 0, 0x02]),
@@ -128,11 +128,12 @@ fn host() -> Option<Host> {
     })
 }
 
-fn own(at: u64, id: u64, op: Op) -> Line {
+pub fn own(at: u64, id: u64, op: Op) -> Line {
     Line {
         at: Moment(at),
         id: Some(OpId(id)),
         op,
+        seen: None,
         full: None,
     }
 }
@@ -142,15 +143,31 @@ fn bare(at: u64, op: Op) -> Line {
         at: Moment(at),
         id: None,
         op,
+        seen: None,
         full: None,
     }
 }
 
-fn full(line: Line, seen: u32) -> Line {
+/// The line, which saw so many entries.
+pub fn saw(line: Line, seen: u32) -> Line {
     Line {
+        seen: Some(seen),
+        ..line
+    }
+}
+
+/// The line, which saw so many entries, all of which stand in its way.
+pub fn full(line: Line, seen: u32) -> Line {
+    Line {
+        seen: Some(seen),
         full: Some(seen),
         ..line
     }
+}
+
+/// A packet of two bytes.
+pub fn packet_to(key: Key) -> Op {
+    Op::Send { key, len: 2 }
 }
 
 /// A packet of two bytes to a key at each of the moments.
@@ -171,7 +188,7 @@ fn packets(
     Ok(items)
 }
 
-fn plan(
+pub fn plan(
     alloc: Global,
     host: Host,
     packets: Items<SendItem>,
@@ -198,8 +215,8 @@ fn packet_lines(alloc: Global) -> Result<Items<Line>, AllocError> {
         nud: Nud::Permanent,
     };
     let mut lines = Items::new(alloc);
-    lines.push(own(0, 32, add))?;
-    lines.push(own(5, 33, Op::Send { key: ONE }))?;
+    lines.push(saw(own(0, 32, add), 0))?;
+    lines.push(own(5, 33, packet_to(ONE)))?;
     Ok(lines)
 }
 
@@ -218,18 +235,18 @@ fn first_forms(lines: &mut Items<Line>) -> Result<(), AllocError> {
         overrides: true,
     };
     lines.push(full(own(10, 96, arp), 3))?;
-    lines.push(own(11, 33, Op::Send { key: ONE }))?;
+    lines.push(saw(own(11, 33, packet_to(ONE)), 0))?;
     lines.push(own(12, 128, na))?;
     lines.push(bare(1011, Op::Timer { key: ONE }))?;
-    lines.push(full(own(1012, 65, Op::Send { key: THREE }), 2))
+    lines.push(full(own(1012, 65, packet_to(THREE)), 2))
 }
 
 fn last_forms(lines: &mut Items<Line>) -> Result<(), AllocError> {
     lines.push(own(1013, 160, Op::Show))?;
-    lines.push(bare(1014, Op::Sweep))?;
+    lines.push(saw(bare(1014, Op::Sweep), 1))?;
     lines.push(bare(1015, Op::Collect { key: ONE }))?;
-    lines.push(own(1016, 192, Op::Ns { key: ONE, mac: A }))?;
-    lines.push(own(1017, 97, Op::Send { key: ONE }))
+    lines.push(saw(own(1016, 192, Op::Ns { key: ONE, mac: A }), 0))?;
+    lines.push(own(1017, 97, packet_to(ONE)))
 }
 
 fn form_lines(alloc: Global) -> Result<Items<Line>, AllocError> {
@@ -248,10 +265,10 @@ fn six_lines(alloc: Global) -> Result<Items<Line>, AllocError> {
         overrides: true,
     };
     let mut lines = Items::new(alloc);
-    lines.push(own(5, 33, Op::Send { key: SIX }))?;
+    lines.push(saw(own(5, 33, packet_to(SIX)), 0))?;
     lines.push(bare(1005, Op::Timer { key: SIX }))?;
     lines.push(own(1500, 32, na))?;
-    lines.push(own(2000, 65, Op::Send { key: SIX }))?;
+    lines.push(own(2000, 65, packet_to(SIX)))?;
     lines.push(bare(7000, Op::Timer { key: SIX }))?;
     Ok(lines)
 }
@@ -318,7 +335,7 @@ fn form_host_lines(alloc: Global) -> Result<Items<HostLine>, AllocError> {
     Ok(lines)
 }
 
-fn slow(why: Why, place: u32, reply: Reply) -> Outcome {
+pub fn slow(why: Why, place: u32, reply: Reply) -> Outcome {
     Outcome::Slow { why, place, reply }
 }
 
@@ -332,10 +349,7 @@ fn form_log(alloc: Global) -> Result<Log, AllocError> {
     let why = Why::Again {
         tries: [(1, 2), (3, 4), (5, 6), (7, 8)],
     };
-    let waits = Reply::Waits {
-        dropped: Some(OpId(33)),
-    };
-    log.push(slow(why, 1, waits))?;
+    log.push(slow(why, 1, Reply::Waits { dropped: 2 }))?;
     log.push(slow(Why::First, 9, Reply::Sent))?;
     Ok(log)
 }
@@ -359,7 +373,7 @@ fn mark(alloc: Global, start: Option<Moment>, length: u32) -> Result<Mark, Alloc
 }
 
 /// A list of one.
-fn one<T: Drop>(alloc: Global, item: T) -> Result<Items<T>, AllocError> {
+pub fn one<T: Drop>(alloc: Global, item: T) -> Result<Items<T>, AllocError> {
     let mut items = Items::new(alloc);
     items.push(item)?;
     Ok(items)
@@ -409,7 +423,7 @@ fn form_run(alloc: Global, host: Host) -> Result<Run, AllocError>
 
 fn six_log(alloc: Global) -> Result<Log, AllocError> {
     let mut log = Items::new(alloc);
-    log.push(slow(Why::Inline, 0, Reply::Waits { dropped: None }))?;
+    log.push(slow(Why::Inline, 0, Reply::Waits { dropped: 0 }))?;
     log.push(slow(Why::Inline, 3, Reply::Sent))?;
     Ok(log)
 }

@@ -103,11 +103,16 @@ const HEAD_LINES: &str = "\
 10 param ucast_solicit 11
 0 param proxy_delay 10
 10 param proxy_qlen 1025
-10 param unres_qlen 65
-10 param unres_qlen 1x
+0 param unres_qlen_bytes 256
+0 param unres_qlen_bytes 16448
+10 param unres_qlen_bytes 255
+10 param unres_qlen_bytes 16449
+3 param unres_qlen 3
+10 param unres_qlen_bytes 1x
 3 param
-3 param unres_qlen
-3 param unres_qlen 1 2
+3 param unres_qlen_bytes
+3 param unres_qlen_bytes 256 2
+10 param unres_qlen_bytes 1 2
 3 param gc_thresh4 x
 13 host
 13 host dev eth0 lladdr 2:0:0:0:0:2
@@ -363,7 +368,7 @@ param mcast_solicit 3
 param ucast_solicit 3
 param proxy_delay 800
 param proxy_qlen 64
-param unres_qlen 3
+param unres_qlen_bytes 4096
 @0 neigh add 10.0.0.1 lladdr 00:11:22:33:44:55 dev eth0 nud permanent
 @0 neigh add 10.0.0.3 dev eth0 nud noarp
 @1 neigh change fe80::1 lladdr 00:11:22:33:44:55 dev eth0 nud reachable

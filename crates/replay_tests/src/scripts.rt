@@ -5,6 +5,7 @@ mod confirming;
 mod ordering;
 mod removing;
 mod retiming;
+mod sizes;
 mod timers;
 mod waiting;
 
@@ -25,6 +26,15 @@ pub struct Worked {
     pub report: &'static str,
 }
 
+/// Packets of zeros to one address at moment 0, of so many bytes each, below their script's parameters, and the report without the
+/// first two lines.
+pub struct Packets {
+    pub shows: &'static str,
+    pub parameters: &'static str,
+    pub lens: &'static [usize],
+    pub report: &'static str,
+}
+
 /// A first text with another behind it.
 fn joined(alloc: Global, front: &str, rest: &str) -> Result<Bytes, AllocError> {
     let mut text = String::from_str(alloc, front)?;
@@ -33,15 +43,14 @@ fn joined(alloc: Global, front: &str, rest: &str) -> Result<Bytes, AllocError> {
 }
 
 /// The report's first line, the host's, and the rest.
-fn report_of(alloc: Global, worked: &Worked) -> Result<Bytes, AllocError> {
-    let senders = worked.senders;
+fn whole_report(alloc: Global, senders: u32, rest: &str) -> Result<Bytes, AllocError> {
     let mut text = String::new(alloc);
     writeln!(
         text,
         "neigh 1 mode inline buckets 1 senders {senders} window 50"
     )?;
     text.push_str(HOST)?;
-    text.push_str(worked.report)?;
+    text.push_str(rest)?;
     Ok(Items::from_vec(text.into_bytes()))
 }
 
@@ -52,18 +61,24 @@ fn words(alloc: Global) -> Result<Vec<String>, AllocError> {
     Ok(words)
 }
 
-fn inputs(alloc: Global, worked: &Worked) -> Result<MemoryInputs, AllocError> {
+/// The file of a script whose host line is left out.
+fn inputs(alloc: Global, script: &str) -> Result<MemoryInputs, AllocError> {
     let mut files = Vec::new(alloc);
     files.push(MemoryFile {
         name: joined(alloc, "s", "")?,
-        bytes: joined(alloc, HOST, worked.script)?,
+        bytes: joined(alloc, HOST, script)?,
     })?;
     MemoryInputs::new(alloc, files, &[])
 }
 
-/// Whether the call replays the script to its report.
-fn replays(rt: &HostRuntime, alloc: Global, worked: &Worked) -> Result<bool, AllocError> {
-    let mut inputs = inputs(alloc, worked)?;
+/// Whether the call replays the script to the report.
+fn replays(
+    rt: &HostRuntime,
+    alloc: Global,
+    script: &str,
+    report: &Bytes,
+) -> Result<bool, AllocError> {
+    let mut inputs = inputs(alloc, script)?;
     let mut out = MemorySink::new(alloc, 8192, 8192, &[])?;
     let mut err = MemorySink::new(alloc, 200, 200, &[])?;
     let status = run(
@@ -75,7 +90,6 @@ fn replays(rt: &HostRuntime, alloc: Global, worked: &Worked) -> Result<bool, All
         &mut err,
         &OpenGate,
     );
-    let report = report_of(alloc, worked)?;
     Ok(status == 0 && out.bytes() == report.as_slice() && err.bytes().is_empty())
 }
 
@@ -86,8 +100,43 @@ fn first_wrong(
     table: &[Worked],
 ) -> Result<Option<&'static str>, AllocError> {
     for worked in table {
-        if !replays(rt, alloc, worked)? {
+        let report = whole_report(alloc, worked.senders, worked.report)?;
+        if !replays(rt, alloc, worked.script, &report)? {
             return Ok(Some(worked.shows));
+        }
+    }
+    Ok(None)
+}
+
+/// A line that sends so many zeros to one address.
+fn push_packet(text: &mut String, len: usize) -> Result<(), AllocError> {
+    text.push_str("@0 send 1 10.0.0.1 ")?;
+    for _ in 0..len {
+        text.push_str("00")?;
+    }
+    text.push_str("\n")
+}
+
+/// The script that sends these packets, without its host line.
+fn script_of(alloc: Global, packets: &Packets) -> Result<String, AllocError> {
+    let mut text = String::from_str(alloc, packets.parameters)?;
+    for len in packets.lens {
+        push_packet(&mut text, *len)?;
+    }
+    Ok(text)
+}
+
+/// The first packets of the table that aren't replayed to their report.
+fn first_wrong_packets(
+    rt: &HostRuntime,
+    alloc: Global,
+    table: &[Packets],
+) -> Result<Option<&'static str>, AllocError> {
+    for packets in table {
+        let script = script_of(alloc, packets)?;
+        let report = whole_report(alloc, 1, packets.report)?;
+        if !replays(rt, alloc, &script, &report)? {
+            return Ok(Some(packets.shows));
         }
     }
     Ok(None)
@@ -97,6 +146,7 @@ fn first_wrong(
 fn packets_and_timers(rt: HostRuntime) -> Result<(), Fail> {
     let alloc = rt.alloc();
     assert_eq!(rt; first_wrong(&rt, alloc, &waiting::SCRIPTS)?, None);
+    assert_eq!(rt; first_wrong_packets(&rt, alloc, &sizes::SCRIPTS)?, None);
     assert_eq!(rt; first_wrong(&rt, alloc, &timers::SCRIPTS)?, None);
     assert_eq!(rt; first_wrong(&rt, alloc, &confirming::SCRIPTS)?, None);
     assert_eq!(rt; first_wrong(&rt, alloc, &retiming::SCRIPTS)?, None);

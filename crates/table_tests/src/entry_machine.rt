@@ -1,5 +1,5 @@
 ghost use Rattle.std.specs.Prelude.{◌≤◌, IsTrue};
-ghost use Rattle.nud_machine.specs.Asked.{NamesSettable, FiresAtDue};
+ghost use Rattle.nud_machine.specs.Asked.{NamesSettable, BringsSized, FiresAtDue};
 
 use nb_base::{Host, Key, Mac, Moment, Name, Nud, OpId, Params};
 use nb_queues::WaitQueue;
@@ -22,7 +22,7 @@ struct Trial {
 }
 
 impl Model for Trial {
-    ghost use Rattle.std.specs.Prelude.{◌≡◌, ℕ};
+    ghost use Rattle.std.specs.Prelude.{ℕ};
     ghost use Rattle.nb_base.specs.Params.{InRange};
     ghost use Rattle.nud_machine.specs.Asked.{IsInRun};
     ghost use Rattle.nud_machine.specs.Kept.{state_of};
@@ -30,14 +30,15 @@ impl Model for Trial {
 
     ghost Value = { ℕ };
 
-    ghost view = { λ t. t.waiting.capacity };
+    ghost view = { λ t. t.entry.updated };
 
-    ghost invariant = { λ t. InRange t.params × IsInRun t.entry × IsSound t.params (state_of t.entry t.waiting) × (t.waiting.capacity ≡ t.params.unres_qlen) };
+    ghost invariant = { λ t. InRange t.params × IsInRun t.entry × IsSound t.params (state_of t.entry t.waiting) };
 }
 
 /// Whether the event may be asked for at the moment.
 fn may_be(event: &Event, at: Moment, entry: &Entry) -> bool
     ensures settable { IsTrue result → NamesSettable event.now }
+    ensures sized { IsTrue result → BringsSized event.now }
     ensures due { IsTrue result → FiresAtDue event.now at entry.now }
 {
     match event {
@@ -45,24 +46,28 @@ fn may_be(event: &Event, at: Moment, entry: &Entry) -> bool
             nud,
             Nud::Permanent | Nud::Noarp | Nud::Reachable | Nud::Stale
         ),
+        Event::Send { size, .. } => (257..=1_756).contains(size),
         Event::Timer => entry.due == Some(at),
         _ => true,
     }
 }
 
 impl Trial {
-    /// An entry that was just made at 0.
-    fn made(alloc: Global, ucast_solicit: u32) -> Result<Trial, AllocError>
-        requires { ucast_solicit ≤ 10 }
+    /// An entry that was just made at 0, for which so many bytes may wait.
+    fn made(alloc: Global, ucast_solicit: u32, unres_qlen_bytes: u32) -> Result<Trial, AllocError>
+        requires solicit { ucast_solicit ≤ 10 }
+        requires least { 256 ≤ unres_qlen_bytes }
+        requires most { unres_qlen_bytes ≤ 16_448 }
     {
         let params = Params {
             ucast_solicit,
+            unres_qlen_bytes,
             ..Params::DEFAULT
         };
         Ok(Trial {
             params,
             entry: Entry::made(Moment(0)),
-            waiting: WaitQueue::new(alloc, params.unres_qlen)?,
+            waiting: WaitQueue::new(alloc)?,
             acts: Acts::new(alloc)?,
         })
     }
@@ -140,7 +145,7 @@ fn doubted() -> Row {
     let id = OpId(33);
     Row {
         is_first: false,
-        event: Event::Send(id),
+        event: Event::Send { id, size: 257 },
         nud: Nud::Delay,
         due: Some(5_000),
         acts: [Some(Act::Transmit(id, A)), None, None, None],
@@ -150,10 +155,15 @@ fn doubted() -> Row {
 
 /// A packet to an unknown address.
 fn asked(is_first: bool, id: OpId, acts: [Option<Act>; 4]) -> Row {
+    sized(is_first, id, 257, acts)
+}
+
+/// A packet to an unknown address that counts for so many bytes.
+fn sized(is_first: bool, id: OpId, size: u32, acts: [Option<Act>; 4]) -> Row {
     Row {
         is_first,
         at: 0,
-        event: Event::Send(id),
+        event: Event::Send { id, size },
         nud: Nud::Incomplete,
         mac: None,
         confirmed: None,
@@ -260,6 +270,42 @@ fn unresolved_after_three_probes() -> [Row; 7] {
     ]
 }
 
+fn bytes_push_out_two() -> [Row; 3] {
+    let (first, second, third) = (OpId(33), OpId(65), OpId(97));
+    let begun = [Some(Act::SolicitGroup), Some(Act::Wait(first)), None, None];
+    let pushed_out = [
+        Some(Act::Drop(first, Cause::QueueFull)),
+        Some(Act::Drop(second, Cause::QueueFull)),
+        Some(Act::Wait(third)),
+        None,
+    ];
+    [
+        sized(true, first, 756, begun),
+        sized(
+            false,
+            second,
+            756,
+            [Some(Act::Wait(second)), None, None, None],
+        ),
+        sized(false, third, 1_756, pushed_out),
+    ]
+}
+
+fn large_packet_waits_alone() -> [Row; 2] {
+    let (first, second) = (OpId(33), OpId(65));
+    let begun = [Some(Act::SolicitGroup), Some(Act::Wait(first)), None, None];
+    let pushed_out = [
+        Some(Act::Drop(first, Cause::QueueFull)),
+        Some(Act::Wait(second)),
+        None,
+        None,
+    ];
+    [
+        sized(true, first, 1_756, begun),
+        sized(false, second, 257, pushed_out),
+    ]
+}
+
 fn reachable_turns_stale() -> [Row; 3] {
     let first = given(Nud::Reachable, Some(0), Some(30_000));
     [
@@ -342,7 +388,7 @@ impl Trial {
 
 #[test]
 fn steps(rt: HostRuntime) -> Result<(), Fail> {
-    let mut trial = Trial::made(rt.alloc(), 3)?;
+    let mut trial = Trial::made(rt.alloc(), 3, 800)?;
     let tables: [&[Row]; 5] = [
         &arp_at_locktime_and_past_it(),
         &unresolved_after_three_probes(),
@@ -353,15 +399,30 @@ fn steps(rt: HostRuntime) -> Result<(), Fail> {
     for table in tables {
         for row in table {
             if row.is_first {
-                trial = Trial::made(rt.alloc(), 3)?;
+                trial = Trial::made(rt.alloc(), 3, 800)?;
             }
             assert!(rt; trial.takes(row), "at {} ms", row.at);
         }
     }
-    let mut trial = Trial::made(rt.alloc(), 0)?;
+    let mut trial = Trial::made(rt.alloc(), 0, 800)?;
     for row in delay_without_unicast_probes() {
         assert!(rt; trial.takes(&row), "at {} ms", row.at);
     }
+    Ok(())
+}
+
+#[test]
+fn bytes_that_wait(rt: HostRuntime) -> Result<(), Fail> {
+    let mut trial = Trial::made(rt.alloc(), 3, 2_000)?;
+    for row in bytes_push_out_two() {
+        assert!(rt; trial.takes(&row));
+    }
+    assert_eq!(rt; (trial.waiting.len(), trial.waiting.total()), (1, 1_756));
+    let mut trial = Trial::made(rt.alloc(), 3, 1_000)?;
+    for row in large_packet_waits_alone() {
+        assert!(rt; trial.takes(&row));
+    }
+    assert_eq!(rt; (trial.waiting.len(), trial.waiting.total()), (1, 257));
     Ok(())
 }
 
@@ -375,7 +436,7 @@ fn records_and_dues(rt: HostRuntime) -> Result<(), Fail> {
     };
     let ip4 = Key::V4(0x0a00_0001);
     let ip6 = Key::V6(0xfe80_0000_0000_0000_0000_0000_0000_0001);
-    let mut trial = Trial::made(rt.alloc(), 3)?;
+    let mut trial = Trial::made(rt.alloc(), 3, 800)?;
     let first = record(&trial.entry, &host, &ip4);
     assert!(rt; !first.usable);
     assert_eq!(rt; first.header, [0; 14]);

@@ -1,12 +1,18 @@
 ghost use Rattle.std.specs.Prelude.{◌≡◌, ◌<◌, ◌^◌, length, true};
-ghost use Rattle.nb_journal.specs.Evaluated.{IsAtDue, IsStep};
+ghost use Rattle.nb_journal.specs.Steps.{IsAtDue, IsStep};
 
-use journal_fold::Fold;
+use journal_fold::{Fold, Shown, Touch};
 use nb_base::{Key, Line, Moment, Nud, Op, OpId, Params, Reply};
 use nb_journal::is_line_of_run;
 use nud_machine::{Act, Acts, Cause};
 use std::alloc::Global;
 use std::test::Fail;
+
+/// 800 bytes may wait: three packets of one byte.
+const NARROW: Params = Params {
+    unres_qlen_bytes: 800,
+    ..Params::DEFAULT
+};
 
 /// 10.0.0.N
 fn ten(n: u8) -> Key {
@@ -19,12 +25,20 @@ fn own(at: u64, id: u64, op: Op) -> Line {
         at: Moment(at),
         id: Some(OpId(id)),
         op,
+        seen: None,
         full: None,
     }
 }
 
 fn send(at: u64, id: u64, key: u8) -> Line {
-    own(at, id, Op::Send { key: ten(key) })
+    own(
+        at,
+        id,
+        Op::Send {
+            key: ten(key),
+            len: 1,
+        },
+    )
 }
 
 fn timer(at: u64, key: u8) -> Line {
@@ -32,6 +46,7 @@ fn timer(at: u64, key: u8) -> Line {
         at: Moment(at),
         id: None,
         op: Op::Timer { key: ten(key) },
+        seen: None,
         full: None,
     }
 }
@@ -75,16 +90,14 @@ fn taken(
         return Ok(None);
     }
     fold.reserve(alloc, 1)?;
-    Ok(Some(fold.take(line, acts)))
+    Ok(Some(fold.append(line, acts)))
 }
 
 #[test]
 fn unanswered_probes(rt: HostRuntime) -> Result<(), Fail> {
     let alloc = rt.alloc();
-    let waits = Some(Reply::Waits { dropped: None });
-    let pushed_out = Some(Reply::Waits {
-        dropped: Some(OpId(33)),
-    });
+    let waits = Some(Reply::Waits { dropped: 0 });
+    let pushed_out = Some(Reply::Waits { dropped: 1 });
     let table = [
         (send(0, 33, 1), waits),
         (send(0, 65, 1), waits),
@@ -95,7 +108,7 @@ fn unanswered_probes(rt: HostRuntime) -> Result<(), Fail> {
         (timer(3000, 1), None),
         (own(4000, 64, Op::Show), Some(Reply::Counted(1))),
     ];
-    let mut fold = Fold::new(alloc, &Params::DEFAULT)?;
+    let mut fold = Fold::new(alloc, &NARROW)?;
     let mut acts = Acts::new(alloc)?;
     for (line, reply) in table {
         assert_eq!(rt; taken(alloc, &mut fold, &line, &mut acts)?, Some(reply));
@@ -122,20 +135,20 @@ fn told(
     if !is_next(fold, line) {
         return Ok(None);
     }
-    Ok(Some(fold.take_with_acts(alloc, line, room, acts)?))
+    Ok(Some(fold.append_with_acts(alloc, line, room, acts)?))
 }
 
 #[test]
 fn flush_goes_by_rank(rt: HostRuntime) -> Result<(), Fail> {
     let alloc = rt.alloc();
-    let waits = Some(Reply::Waits { dropped: None });
+    let waits = Some(Reply::Waits { dropped: 0 });
     let table = [
         (send(0, 33, 7), waits),
         (send(0, 65, 5), waits),
         (own(10, 32, Op::Flush), Some(Reply::Counted(2))),
         (own(10, 64, Op::Show), Some(Reply::Counted(0))),
     ];
-    let mut fold = Fold::new(alloc, &Params::DEFAULT)?;
+    let mut fold = Fold::new(alloc, &NARROW)?;
     let mut room = Acts::new(alloc)?;
     let mut acts = Vec::new(alloc);
     for (line, reply) in table {
@@ -154,6 +167,70 @@ fn flush_goes_by_rank(rt: HostRuntime) -> Result<(), Fail> {
     ];
     assert_eq!(rt; acts.as_slice(), all.as_slice());
     assert_eq!(rt; fold.keys(), [ten(7), ten(5)].as_slice());
+    assert_eq!(rt; fold.present(), 0);
+    Ok(())
+}
+
+/// The keys of which the line changes what is shown, the first three; `None` where the fold may not take it.
+fn touched(
+    alloc: Global,
+    fold: &mut Fold,
+    line: &Line,
+) -> Result<Option<[Option<Touch>; 3]>, Fail> {
+    if !is_next(fold, line) {
+        return Ok(None);
+    }
+    let touched = fold.take(alloc, line)?;
+    Ok(Some([
+        touched.get(0).copied(),
+        touched.get(1).copied(),
+        touched.get(2).copied(),
+    ]))
+}
+
+/// The key without an address, in the state.
+fn shown(n: u8, nud: Nud) -> Option<Touch> {
+    Some(Touch {
+        key: ten(n),
+        shown: Some(Shown {
+            mac: None,
+            nud,
+            router: false,
+        }),
+    })
+}
+
+/// The key without an entry.
+fn gone(n: u8) -> Option<Touch> {
+    Some(Touch {
+        key: ten(n),
+        shown: None,
+    })
+}
+
+#[test]
+fn lines_touch_what_they_change(rt: HostRuntime) -> Result<(), Fail> {
+    let alloc = rt.alloc();
+    let none = [None, None, None];
+    let table = [
+        (send(0, 33, 7), [shown(7, Nud::Incomplete), None, None]),
+        (send(0, 65, 5), [shown(5, Nud::Incomplete), None, None]),
+        (send(0, 97, 7), none),
+        (timer(1000, 7), none),
+        (timer(1000, 5), none),
+        (timer(2000, 7), none),
+        (timer(2000, 5), none),
+        (timer(3000, 7), [shown(7, Nud::Failed), None, None]),
+        (timer(3000, 5), [shown(5, Nud::Failed), None, None]),
+        (send(4000, 129, 5), [shown(5, Nud::Incomplete), None, None]),
+        (own(4000, 32, Op::Show), none),
+        (own(4000, 64, Op::Flush), [gone(7), gone(5), None]),
+        (own(4000, 96, Op::Del { key: ten(7) }), none),
+    ];
+    let mut fold = Fold::new(alloc, &NARROW)?;
+    for (line, keys) in table {
+        assert_eq!(rt; touched(alloc, &mut fold, &line)?, Some(keys));
+    }
     assert_eq!(rt; fold.present(), 0);
     Ok(())
 }

@@ -1,7 +1,9 @@
+ghost use Rattle.std.specs.Prelude.{◌≤◌};
 ghost use Rattle.nb_base.specs.Params.{InRange};
 
+use journal_check::{is_evaluable, is_lawful, reply_at, state_at};
 use nb_base::{Key, Line, Mac, Moment, Nud, Op, OpId, Params, Reply};
-use nb_journal::{is_evaluable, is_lawful, is_line_of_run, reply_at, state_at};
+use nb_journal::is_line_of_run;
 use std::alloc::{AllocError, Global};
 use std::test::Fail;
 
@@ -20,6 +22,7 @@ fn own(at: u64, id: u64, op: Op) -> Line {
         at: Moment(at),
         id: Some(OpId(id)),
         op,
+        seen: None,
         full: None,
     }
 }
@@ -30,12 +33,34 @@ fn made(at: u64, op: Op) -> Line {
         at: Moment(at),
         id: None,
         op,
+        seen: None,
         full: None,
     }
 }
 
+/// A packet of so many bytes to 10.0.0.1 at 0.
+fn packet(id: u64, len: u32) -> Line {
+    own(0, id, Op::Send { key: ten(1), len })
+}
+
+/// A packet of one byte.
 fn send(at: u64, id: u64, key: u8) -> Line {
-    own(at, id, Op::Send { key: ten(key) })
+    own(
+        at,
+        id,
+        Op::Send {
+            key: ten(key),
+            len: 1,
+        },
+    )
+}
+
+/// The line, which saw so many entries.
+fn saw(line: Line, seen: u32) -> Line {
+    Line {
+        seen: Some(seen),
+        ..line
+    }
 }
 
 fn timer(at: u64, key: u8) -> Line {
@@ -46,13 +71,13 @@ fn collect(at: u64, key: u8) -> Line {
     made(at, Op::Collect { key: ten(key) })
 }
 
-fn sweep(at: u64) -> Line {
-    made(at, Op::Sweep)
+fn sweep(at: u64, seen: u32) -> Line {
+    saw(made(at, Op::Sweep), seen)
 }
 
-/// `ip neigh add 10.0.0.1 lladdr A`
+/// `ip neigh add 10.0.0.1 lladdr A`, to an empty table.
 fn add(id: u64, nud: Nud) -> Line {
-    own(
+    let added = own(
         0,
         id,
         Op::Add {
@@ -60,7 +85,8 @@ fn add(id: u64, nud: Nud) -> Line {
             mac: Some(A),
             nud,
         },
-    )
+    );
+    saw(added, 0)
 }
 
 /// An ARP reply of 10.0.0.1 at B.
@@ -143,8 +169,8 @@ fn edited(alloc: Global, lines: &[Line], edit: &Edit) -> Result<Vec<Line>, Alloc
     Ok(after)
 }
 
-/// The first edit after which the lines aren't refused, if there is one.
-fn first_let_through(
+/// How many of the edits are refused before the first that isn't; `None` where the lines themselves aren't lawful.
+fn refused(
     alloc: Global,
     params: &Params,
     lines: &[Line],
@@ -153,13 +179,16 @@ fn first_let_through(
 ) -> Result<Option<usize>, AllocError>
     requires { InRange params.now }
 {
+    if is_lawful(alloc, params, lines, Moment(clock))? != Some(true) {
+        return Ok(None);
+    }
     for (number, edit) in edits.iter().enumerate() {
         let damaged = edited(alloc, lines, edit)?;
         if is_lawful(alloc, params, &damaged, Moment(clock))? != Some(false) {
             return Ok(Some(number));
         }
     }
-    Ok(None)
+    Ok(Some(edits.len()))
 }
 
 /// The reply to the line at the place, where the lines before it can be evaluated.
@@ -205,9 +234,12 @@ fn known(
 #[test]
 fn unresolved_after_three_probes(rt: HostRuntime) -> Result<(), Fail> {
     let alloc = rt.alloc();
-    let params = Params::DEFAULT;
+    let params = Params {
+        unres_qlen_bytes: 800,
+        ..Params::DEFAULT
+    };
     let lines = [
-        send(0, 33, 1),
+        saw(send(0, 33, 1), 0),
         send(0, 65, 1),
         send(0, 97, 1),
         send(0, 129, 1),
@@ -221,27 +253,67 @@ fn unresolved_after_three_probes(rt: HostRuntime) -> Result<(), Fail> {
         without(6),
         with(7, timer(3000, 1)),
         instead(1, send(5, 65, 1)),
-        instead(0, full(send(0, 33, 1), 0)),
+        instead(0, full(saw(send(0, 33, 1), 0), 0)),
         instead(7, made(4000, Op::Show)),
         instead(4, own(1000, 161, Op::Timer { key: ten(1) })),
+        instead(0, send(0, 33, 1)),
+        instead(1, saw(send(0, 65, 1), 1)),
+        instead(4, saw(timer(1000, 1), 1)),
     ];
-    assert_eq!(rt;
-        is_lawful(alloc, &params, &lines, Moment(4000))?,
-        Some(true)
-    );
     assert_eq!(rt;
         is_lawful(alloc, &params, &lines, Moment(3999))?,
         Some(false)
     );
-    assert_eq!(rt;
-        first_let_through(alloc, &params, &lines, 4000, &edits)?,
-        None
-    );
-    let pushed_out = Reply::Waits {
-        dropped: Some(OpId(33)),
-    };
+    let all = Some(edits.len());
+    assert_eq!(rt; refused(alloc, &params, &lines, 4000, &edits)?, all);
+    let pushed_out = Reply::Waits { dropped: 1 };
     assert_eq!(rt; answer(alloc, &params, &lines, 3)?, Some(pushed_out));
     assert_eq!(rt; answer(alloc, &params, &lines, 7)?, Some(Reply::Counted(1)));
+    Ok(())
+}
+
+/// How many packets the last line's packet pushes out, where so many bytes may wait.
+fn pushed_out(
+    alloc: Global,
+    unres_qlen_bytes: u32,
+    lines: &[Line],
+) -> Result<Option<Reply>, AllocError>
+    requires least { 256 ≤ unres_qlen_bytes }
+    requires most { unres_qlen_bytes ≤ 16_448 }
+{
+    let params = Params {
+        unres_qlen_bytes,
+        ..Params::DEFAULT
+    };
+    if is_lawful(alloc, &params, lines, Moment(0))? != Some(true) || lines.is_empty() {
+        return Ok(None);
+    }
+    answer(alloc, &params, lines, lines.len() - 1)
+}
+
+#[test]
+fn bytes_push_out_two(rt: HostRuntime) -> Result<(), Fail> {
+    let lines = [saw(packet(33, 500), 0), packet(65, 500), packet(97, 1500)];
+    let table = [(1, 0), (2, 0), (3, 2)];
+    for (count, dropped) in table {
+        assert_eq!(rt;
+            pushed_out(rt.alloc(), 2000, &lines[..count])?,
+            Some(Reply::Waits { dropped })
+        );
+    }
+    Ok(())
+}
+
+#[test]
+fn large_packet_waits_alone(rt: HostRuntime) -> Result<(), Fail> {
+    let lines = [saw(packet(33, 1500), 0), packet(65, 1)];
+    let table = [(1, 0), (2, 1)];
+    for (count, dropped) in table {
+        assert_eq!(rt;
+            pushed_out(rt.alloc(), 1000, &lines[..count])?,
+            Some(Reply::Waits { dropped })
+        );
+    }
     Ok(())
 }
 
@@ -250,21 +322,15 @@ fn ties_go_by_rank(rt: HostRuntime) -> Result<(), Fail> {
     let alloc = rt.alloc();
     let params = Params::DEFAULT;
     let lines = [
-        send(0, 33, 7),
-        send(0, 65, 5),
+        saw(send(0, 33, 7), 0),
+        saw(send(0, 65, 5), 1),
         timer(1000, 7),
         timer(1000, 5),
         own(1000, 32, Op::Show),
     ];
     let edits = [both(2, timer(1000, 5), timer(1000, 7)), without(3)];
-    assert_eq!(rt;
-        is_lawful(alloc, &params, &lines, Moment(1000))?,
-        Some(true)
-    );
-    assert_eq!(rt;
-        first_let_through(alloc, &params, &lines, 1000, &edits)?,
-        None
-    );
+    let all = Some(edits.len());
+    assert_eq!(rt; refused(alloc, &params, &lines, 1000, &edits)?, all);
     Ok(())
 }
 
@@ -278,10 +344,10 @@ fn full_table_and_forced_pass(rt: HostRuntime) -> Result<(), Fail> {
         ..Params::DEFAULT
     };
     let lines = [
-        send(0, 33, 11),
-        send(0, 65, 12),
-        send(0, 97, 13),
-        full(send(0, 129, 14), 3),
+        saw(send(0, 33, 11), 0),
+        saw(send(0, 65, 12), 1),
+        saw(send(0, 97, 13), 2),
+        full(saw(send(0, 129, 14), 3), 3),
         timer(1000, 11),
         timer(1000, 12),
         timer(1000, 13),
@@ -293,32 +359,29 @@ fn full_table_and_forced_pass(rt: HostRuntime) -> Result<(), Fail> {
         timer(3000, 13),
         collect(5001, 11),
         collect(5001, 12),
-        send(5001, 161, 14),
+        saw(send(5001, 161, 14), 3),
     ];
     let edits = [
-        instead(3, send(0, 129, 14)),
-        instead(3, full(send(0, 129, 14), 4)),
+        instead(3, saw(send(0, 129, 14), 3)),
+        instead(3, full(saw(send(0, 129, 14), 3), 4)),
         without(13),
         both(13, collect(5001, 12), collect(5001, 11)),
         with(15, collect(5001, 13)),
         instead(14, collect(5000, 12)),
-        instead(15, full(send(5001, 161, 14), 1)),
+        instead(15, full(saw(send(5001, 161, 14), 3), 1)),
+        instead(15, saw(send(5001, 161, 14), 2)),
+        instead(15, saw(send(5001, 161, 14), 4)),
+        instead(14, saw(collect(5001, 12), 3)),
     ];
-    assert_eq!(rt;
-        is_lawful(alloc, &params, &lines, Moment(5001))?,
-        Some(true)
-    );
-    assert_eq!(rt;
-        first_let_through(alloc, &params, &lines, 5001, &edits)?,
-        None
-    );
+    let all = Some(edits.len());
+    assert_eq!(rt; refused(alloc, &params, &lines, 5001, &edits)?, all);
     assert_eq!(rt;
         answer(alloc, &params, &lines, 3)?,
         Some(Reply::Full { seen: 3 })
     );
     assert_eq!(rt;
         answer(alloc, &params, &lines, 15)?,
-        Some(Reply::Waits { dropped: None })
+        Some(Reply::Waits { dropped: 0 })
     );
     assert_eq!(rt; answer(alloc, &params, &lines, 14)?, None);
     Ok(())
@@ -328,17 +391,26 @@ fn full_table_and_forced_pass(rt: HostRuntime) -> Result<(), Fail> {
 fn reachable_turns_stale(rt: HostRuntime) -> Result<(), Fail> {
     let alloc = rt.alloc();
     let params = Params::DEFAULT;
-    let lines = [add(32, Nud::Reachable), timer(30_000, 1), timer(30_010, 1)];
-    let edits = [without(1), instead(2, timer(30_011, 1))];
-    assert_eq!(rt;
-        is_lawful(alloc, &params, &lines, Moment(30_010))?,
-        Some(true)
-    );
-    assert_eq!(rt;
-        first_let_through(alloc, &params, &lines, 30_011, &edits)?,
-        None
-    );
+    let lines = [
+        add(32, Nud::Reachable),
+        timer(30_000, 1),
+        sweep(30_000, 1),
+        timer(30_010, 1),
+        own(40_000, 64, Op::Show),
+    ];
+    let edits = [
+        without(1),
+        instead(3, timer(30_011, 1)),
+        without(2),
+        both(1, sweep(30_000, 1), timer(30_000, 1)),
+        both(2, timer(30_010, 1), sweep(30_000, 1)),
+        instead(2, made(30_000, Op::Sweep)),
+        instead(2, sweep(30_000, 0)),
+    ];
+    let all = Some(edits.len());
+    assert_eq!(rt; refused(alloc, &params, &lines, 40_000, &edits)?, all);
     assert_eq!(rt; known(alloc, &params, &lines)?, Some((Nud::Stale, Some(A))));
+    assert_eq!(rt; answer(alloc, &params, &lines, 4)?, Some(Reply::Counted(1)));
     Ok(())
 }
 
@@ -351,31 +423,58 @@ fn third_sweep_removes(rt: HostRuntime) -> Result<(), Fail> {
     };
     let lines = [
         add(32, Nud::Stale),
-        sweep(30_000),
-        sweep(60_000),
-        sweep(90_000),
+        sweep(30_000, 1),
+        sweep(60_000, 1),
+        sweep(90_000, 1),
         own(90_000, 64, Op::Show),
     ];
     let edits = [
         without(2),
-        both(3, own(90_000, 64, Op::Show), sweep(90_000)),
-        instead(1, sweep(30_001)),
-        with(4, sweep(90_000)),
+        both(3, own(90_000, 64, Op::Show), sweep(90_000, 1)),
+        instead(1, sweep(30_001, 1)),
+        with(4, sweep(90_000, 0)),
     ];
-    assert_eq!(rt;
-        is_lawful(alloc, &params, &lines, Moment(90_000))?,
-        Some(true)
-    );
-    assert_eq!(rt;
-        first_let_through(alloc, &params, &lines, 90_000, &edits)?,
-        None
-    );
+    let all = Some(edits.len());
+    assert_eq!(rt; refused(alloc, &params, &lines, 90_000, &edits)?, all);
     assert_eq!(rt;
         known(alloc, &params, &lines[..3])?,
         Some((Nud::Stale, Some(A)))
     );
     assert_eq!(rt; known(alloc, &params, &lines)?, None);
     assert_eq!(rt; answer(alloc, &params, &lines, 4)?, Some(Reply::Counted(0)));
+    Ok(())
+}
+
+/// How many entries are present behind a sweep of one long unused entry that saw so many of the whole table, where sweeps remove
+/// from two entries on; `None` where the sweep isn't lawful.
+fn left_by_sweep(alloc: Global, seen: u32) -> Result<Option<Reply>, AllocError> {
+    let params = Params {
+        gc_thresh1: 2,
+        gc_interval: 90_000,
+        ..Params::DEFAULT
+    };
+    let lines = [
+        add(32, Nud::Stale),
+        sweep(90_000, seen),
+        own(90_000, 64, Op::Show),
+    ];
+    if is_lawful(alloc, &params, &lines, Moment(90_000))? != Some(true) {
+        return Ok(None);
+    }
+    answer(alloc, &params, &lines, 2)
+}
+
+#[test]
+fn sweeps_go_by_what_they_saw(rt: HostRuntime) -> Result<(), Fail> {
+    let table = [
+        (0, None),
+        (1, Some(Reply::Counted(1))),
+        (2, Some(Reply::Counted(0))),
+        (3, Some(Reply::Counted(0))),
+    ];
+    for (seen, left) in table {
+        assert_eq!(rt; left_by_sweep(rt.alloc(), seen)?, left, "saw {seen}");
+    }
     Ok(())
 }
 
@@ -408,16 +507,10 @@ fn a_permanent_entry_stays(rt: HostRuntime) -> Result<(), Fail> {
         gc_thresh3: 1,
         ..Params::DEFAULT
     };
-    let lines = [add(32, Nud::Permanent), full(send(6000, 65, 2), 1)];
+    let lines = [add(32, Nud::Permanent), full(saw(send(6000, 65, 2), 1), 1)];
     let edits = [with(1, collect(6000, 1))];
-    assert_eq!(rt;
-        is_lawful(alloc, &params, &lines, Moment(6000))?,
-        Some(true)
-    );
-    assert_eq!(rt;
-        first_let_through(alloc, &params, &lines, 6000, &edits)?,
-        None
-    );
+    let all = Some(edits.len());
+    assert_eq!(rt; refused(alloc, &params, &lines, 6000, &edits)?, all);
     assert_eq!(rt; is_lawful(alloc, &params, &[], Moment(0))?, Some(true));
     assert_eq!(rt;
         is_lawful(alloc, &params, &[add(32, Nud::Failed)], Moment(0))?,

@@ -164,7 +164,7 @@ end
 @30030 neigh show
 ",
         report: "\
-bucket 0 lines 9
+bucket 0 lines 10
 0 0 32 add 10.0.0.1 00:11:22:33:44:55 stale -> done
 1 0 33 send 10.0.0.1 -> sent
   tx 33 001122334455020000000002080001
@@ -174,8 +174,9 @@ bucket 0 lines 9
 4 20 96 del 10.0.0.1 -> done
 5 20 128 replace 10.0.0.1 - permanent -> noaddress
 6 30 160 replace 10.0.0.1 00:11:22:33:44:77 reachable -> done
-7 30030 - timer 10.0.0.1 -> -
-8 30030 192 show -> counted 1
+7 30000 - sweep -> -
+8 30030 - timer 10.0.0.1 -> -
+9 30030 192 show -> counted 1
   entry 10.0.0.1 dev eth0 lladdr 00:11:22:33:44:77 REACHABLE
 host lines 6
 1 0 neigh op 0 0 done
@@ -183,7 +184,7 @@ host lines 6
 3 20 neigh op 0 4 done
 4 20 neigh op 0 5 noaddress
 5 30 neigh op 0 6 done
-6 30030 neigh op 0 8 counted 1
+6 30030 neigh op 0 9 counted 1
 sender 1 items 2
 1 0 inline 1 sent
 2 10 inline 3 sent
@@ -205,19 +206,20 @@ end
 @30012 neigh change 10.0.0.1
 ",
         report: "\
-bucket 0 lines 6
+bucket 0 lines 7
 0 0 32 add 10.0.0.1 00:11:22:33:44:55 permanent -> done
 1 1 64 change 10.0.0.1 - reachable -> done
-2 30001 - timer 10.0.0.1 -> -
-3 30011 - timer 10.0.0.1 -> -
-4 30011 96 show -> counted 1
+2 30000 - sweep -> -
+3 30001 - timer 10.0.0.1 -> -
+4 30011 - timer 10.0.0.1 -> -
+5 30011 96 show -> counted 1
   entry 10.0.0.1 dev eth0 lladdr 00:11:22:33:44:55 STALE
-5 30012 128 change 10.0.0.1 - permanent -> done
+6 30012 128 change 10.0.0.1 - permanent -> done
 host lines 4
 1 0 neigh op 0 0 done
 2 1 neigh op 0 1 done
-3 30011 neigh op 0 4 counted 1
-4 30012 neigh op 0 5 done
+3 30011 neigh op 0 5 counted 1
+4 30012 neigh op 0 6 done
 sender 1 items 0
 marks 0
 fates sent 0 fast 0 dropped 0 waiting 0
@@ -240,7 +242,7 @@ end
 @30001 neigh show
 ",
         report: "\
-bucket 0 lines 8
+bucket 0 lines 9
 0 0 32 add 10.0.0.1 00:11:22:33:44:55 noarp -> done
 1 0 64 add 10.0.0.3 00:11:22:33:44:66 permanent -> done
 2 1 96 change 10.0.0.1 00:11:22:33:44:77 reachable -> done
@@ -249,8 +251,9 @@ bucket 0 lines 8
   tx 33 001122334477020000000002080001
 5 2 65 send 10.0.0.3 -> sent
   tx 65 001122334477020000000002080002
-6 30001 - timer 10.0.0.1 -> -
-7 30001 160 show -> counted 2
+6 30000 - sweep -> -
+7 30001 - timer 10.0.0.1 -> -
+8 30001 160 show -> counted 2
   entry 10.0.0.1 dev eth0 lladdr 00:11:22:33:44:77 REACHABLE
   entry 10.0.0.3 dev eth0 lladdr 00:11:22:33:44:77 PERMANENT
 host lines 5
@@ -258,7 +261,7 @@ host lines 5
 2 0 neigh op 0 1 done
 3 1 neigh op 0 2 done
 4 1 neigh op 0 3 done
-5 30001 neigh op 0 7 counted 2
+5 30001 neigh op 0 8 counted 2
 sender 1 items 2
 1 2 inline 4 sent
 2 2 inline 5 sent

@@ -12,21 +12,22 @@ pub const SCRIPTS: [Worked; 9] = [
 @50010 neigh show
 ",
         report: "\
-bucket 0 lines 7
+bucket 0 lines 8
 0 0 32 add 10.0.0.1 00:11:22:33:44:55 reachable -> done
 1 20000 64 confirm 10.0.0.1 -> done
 2 30000 - timer 10.0.0.1 -> -
-3 50000 - timer 10.0.0.1 -> -
-4 50009 96 show -> counted 1
+3 30000 - sweep -> -
+4 50000 - timer 10.0.0.1 -> -
+5 50009 96 show -> counted 1
   entry 10.0.0.1 dev eth0 lladdr 00:11:22:33:44:55 REACHABLE
-5 50010 - timer 10.0.0.1 -> -
-6 50010 128 show -> counted 1
+6 50010 - timer 10.0.0.1 -> -
+7 50010 128 show -> counted 1
   entry 10.0.0.1 dev eth0 lladdr 00:11:22:33:44:55 STALE
 host lines 4
 1 0 neigh op 0 0 done
 2 20000 neigh op 0 1 done
-3 50009 neigh op 0 4 counted 1
-4 50010 neigh op 0 6 counted 1
+3 50009 neigh op 0 5 counted 1
+4 50010 neigh op 0 7 counted 1
 sender 1 items 0
 marks 0
 fates sent 0 fast 0 dropped 0 waiting 0
@@ -47,25 +48,27 @@ end
 @60000 neigh show
 ",
         report: "\
-bucket 0 lines 10
+bucket 0 lines 12
 0 0 32 add 10.0.0.1 00:11:22:33:44:55 reachable -> done
 1 0 64 add 10.0.0.3 00:11:22:33:44:66 reachable -> done
 2 30000 - timer 10.0.0.1 -> -
 3 30000 - timer 10.0.0.3 -> -
-4 30000 96 confirm 10.0.0.3 -> done
-5 30010 - timer 10.0.0.1 -> -
-6 30010 - timer 10.0.0.3 -> -
-7 30010 128 confirm 10.0.0.1 -> done
-8 60000 - timer 10.0.0.3 -> -
-9 60000 160 show -> counted 2
+4 30000 - sweep -> -
+5 30000 96 confirm 10.0.0.3 -> done
+6 30010 - timer 10.0.0.1 -> -
+7 30010 - timer 10.0.0.3 -> -
+8 30010 128 confirm 10.0.0.1 -> done
+9 60000 - timer 10.0.0.3 -> -
+10 60000 - sweep -> -
+11 60000 160 show -> counted 2
   entry 10.0.0.1 dev eth0 lladdr 00:11:22:33:44:55 STALE
   entry 10.0.0.3 dev eth0 lladdr 00:11:22:33:44:66 REACHABLE
 host lines 5
 1 0 neigh op 0 0 done
 2 0 neigh op 0 1 done
-3 30000 neigh op 0 4 done
-4 30010 neigh op 0 7 done
-5 60000 neigh op 0 9 counted 2
+3 30000 neigh op 0 5 done
+4 30010 neigh op 0 8 done
+5 60000 neigh op 0 11 counted 2
 sender 1 items 0
 marks 0
 fates sent 0 fast 0 dropped 0 waiting 0
@@ -291,21 +294,23 @@ param delay_first_probe_time 40000
 @70010 neigh show
 ",
         report: "\
-bucket 0 lines 7
+bucket 0 lines 9
 0 0 32 add 10.0.0.1 00:11:22:33:44:55 reachable -> done
 1 30000 - timer 10.0.0.1 -> -
-2 30010 - timer 10.0.0.1 -> -
-3 30010 64 show -> counted 1
+2 30000 - sweep -> -
+3 30010 - timer 10.0.0.1 -> -
+4 30010 64 show -> counted 1
   entry 10.0.0.1 dev eth0 lladdr 00:11:22:33:44:55 DELAY
-4 50000 96 confirm 10.0.0.1 -> done
-5 70010 - timer 10.0.0.1 -> -
-6 70010 128 show -> counted 1
+5 50000 96 confirm 10.0.0.1 -> done
+6 60000 - sweep -> -
+7 70010 - timer 10.0.0.1 -> -
+8 70010 128 show -> counted 1
   entry 10.0.0.1 dev eth0 lladdr 00:11:22:33:44:55 REACHABLE
 host lines 4
 1 0 neigh op 0 0 done
-2 30010 neigh op 0 3 counted 1
-3 50000 neigh op 0 4 done
-4 70010 neigh op 0 6 counted 1
+2 30010 neigh op 0 4 counted 1
+3 50000 neigh op 0 5 done
+4 70010 neigh op 0 8 counted 1
 sender 1 items 0
 marks 0
 fates sent 0 fast 0 dropped 0 waiting 0

@@ -213,11 +213,11 @@ end
 ",
     },
     Worked {
-        shows: "sixteen_senders_and_a_queue_of_two",
+        shows: "sixteen_senders_and_room_for_two",
         senders: 16,
         script: "\
 senders 16
-param unres_qlen 2
+param unres_qlen_bytes 514
 @0 send 16 10.0.0.1 10
 @0 send 2 10.0.0.1 02
 @0 send 9 10.0.0.1 09
@@ -231,14 +231,14 @@ bucket 0 lines 6
   wait 34
 1 0 41 send 10.0.0.1 -> waits
   wait 41
-2 0 48 send 10.0.0.1 -> waits dropping 34
+2 0 48 send 10.0.0.1 -> waits dropping 1
   drop 34 queuefull
   wait 48
 3 1 32 show -> counted 1
   entry 10.0.0.1 dev eth0 INCOMPLETE
 4 1000 - timer 10.0.0.1 -> -
   solicit ffffffffffff020000000002080600010800060400010200000000020a0000020000000000000a000001
-5 1000 73 send 10.0.0.1 -> waits dropping 41
+5 1000 73 send 10.0.0.1 -> waits dropping 1
   drop 41 queuefull
   wait 73
 host lines 1
@@ -254,7 +254,7 @@ sender 7 items 0
 sender 8 items 0
 sender 9 items 2
 1 0 inline 1 waits
-2 1000 inline 5 waits dropping 41
+2 1000 inline 5 waits dropping 1
 sender 10 items 0
 sender 11 items 0
 sender 12 items 0
@@ -262,7 +262,7 @@ sender 13 items 0
 sender 14 items 0
 sender 15 items 0
 sender 16 items 1
-1 0 inline 2 waits dropping 34
+1 0 inline 2 waits dropping 1
 marks 0
 fates sent 0 fast 0 dropped 2 waiting 2
 table 1

@@ -97,7 +97,7 @@ param mcast_solicit 0
 @40000 neigh show
 ",
         report: "\
-bucket 0 lines 7
+bucket 0 lines 8
 0 0 32 add 10.0.0.1 00:11:22:33:44:55 noarp -> done
 1 0 64 add 10.0.0.4 00:11:22:33:44:77 reachable -> done
 2 0 33 send 10.0.0.5 -> noprobes
@@ -105,14 +105,15 @@ bucket 0 lines 7
 3 1 96 del 10.0.0.1 -> done
 4 1 128 del 10.0.0.4 -> done
 5 1 160 del 10.0.0.5 -> done
-6 40000 192 show -> counted 0
+6 30000 - sweep -> -
+7 40000 192 show -> counted 0
 host lines 6
 1 0 neigh op 0 0 done
 2 0 neigh op 0 1 done
 3 1 neigh op 0 3 done
 4 1 neigh op 0 4 done
 5 1 neigh op 0 5 done
-6 40000 neigh op 0 6 counted 0
+6 40000 neigh op 0 7 counted 0
 sender 1 items 1
 1 0 inline 2 noprobes
 marks 0

@@ -17,7 +17,7 @@ pub const SCRIPTS: [Worked; 6] = [
 @60000 neigh show
 ",
         report: "\
-bucket 0 lines 10
+bucket 0 lines 12
 0 0 32 add 10.0.0.1 00:11:22:33:44:55 reachable -> done
 1 0 64 add 10.0.0.3 00:11:22:33:44:66 stale -> done
 2 0 96 add 10.0.0.4 00:11:22:33:44:77 stale -> done
@@ -30,7 +30,9 @@ bucket 0 lines 10
 7 5000 - timer 10.0.0.4 -> -
   solicit 001122334477020000000002080600010800060400010200000000020a0000020000000000000a000004
 8 5500 192 change 10.0.0.4 00:11:22:33:44:55 noarp -> done
-9 60000 224 show -> counted 3
+9 30000 - sweep -> -
+10 60000 - sweep -> -
+11 60000 224 show -> counted 3
   entry 10.0.0.1 dev eth0 lladdr 00:11:22:33:44:55 PERMANENT
   entry 10.0.0.3 dev eth0 lladdr 00:11:22:33:44:66 STALE
   entry 10.0.0.4 dev eth0 lladdr 00:11:22:33:44:55 NOARP
@@ -41,7 +43,7 @@ host lines 7
 4 10 neigh op 0 5 done
 5 10 neigh op 0 6 done
 6 5500 neigh op 0 8 done
-7 60000 neigh op 0 9 counted 3
+7 60000 neigh op 0 11 counted 3
 sender 1 items 2
 1 0 inline 3 sent
 2 0 inline 4 sent
@@ -67,22 +69,23 @@ end
 @30300 neigh show
 ",
         report: "\
-bucket 0 lines 7
+bucket 0 lines 8
 0 0 32 add 10.0.0.1 00:11:22:33:44:55 stale -> done
 1 0 33 send 10.0.0.1 -> sent
   tx 33 001122334455020000000002080001
 2 100 64 change 10.0.0.1 - reachable -> done
 3 200 96 change 10.0.0.1 00:11:22:33:44:66 reachable -> done
 4 300 128 replace 10.0.0.1 00:11:22:33:44:66 reachable -> done
-5 30300 - timer 10.0.0.1 -> -
-6 30300 160 show -> counted 1
+5 30000 - sweep -> -
+6 30300 - timer 10.0.0.1 -> -
+7 30300 160 show -> counted 1
   entry 10.0.0.1 dev eth0 lladdr 00:11:22:33:44:66 REACHABLE
 host lines 5
 1 0 neigh op 0 0 done
 2 100 neigh op 0 2 done
 3 200 neigh op 0 3 done
 4 300 neigh op 0 4 done
-5 30300 neigh op 0 6 counted 1
+5 30300 neigh op 0 7 counted 1
 sender 1 items 1
 1 0 inline 1 sent
 marks 0
@@ -104,7 +107,7 @@ end
 @36510 neigh show
 ",
         report: "\
-bucket 0 lines 9
+bucket 0 lines 10
 0 0 32 add 10.0.0.1 00:11:22:33:44:55 stale -> done
 1 0 33 send 10.0.0.1 -> sent
   tx 33 001122334455020000000002080001
@@ -115,14 +118,15 @@ bucket 0 lines 9
 4 6500 64 replace 10.0.0.1 - reachable -> done
 5 7000 65 send 10.0.0.1 -> sent
   tx 65 001122334455020000000002080002
-6 36500 - timer 10.0.0.1 -> -
-7 36510 - timer 10.0.0.1 -> -
-8 36510 96 show -> counted 1
+6 30000 - sweep -> -
+7 36500 - timer 10.0.0.1 -> -
+8 36510 - timer 10.0.0.1 -> -
+9 36510 96 show -> counted 1
   entry 10.0.0.1 dev eth0 lladdr 00:11:22:33:44:55 STALE
 host lines 3
 1 0 neigh op 0 0 done
 2 6500 neigh op 0 4 done
-3 36510 neigh op 0 8 counted 1
+3 36510 neigh op 0 9 counted 1
 sender 1 items 2
 1 0 inline 1 sent
 2 7000 inline 5 sent

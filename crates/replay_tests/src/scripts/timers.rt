@@ -1,7 +1,7 @@
-//! Scripts of timers.
+//! Scripts of timers and sweeps.
 use crate::scripts::Worked;
 
-pub const SCRIPTS: [Worked; 8] = [
+pub const SCRIPTS: [Worked; 10] = [
     Worked {
         shows: "permanent_and_noarp_need_no_timers",
         senders: 1,
@@ -13,23 +13,29 @@ pub const SCRIPTS: [Worked; 8] = [
 @200000 neigh show
 ",
         report: "\
-bucket 0 lines 5
+bucket 0 lines 11
 0 0 32 add 10.0.0.1 00:11:22:33:44:55 permanent -> done
 1 0 64 add 10.0.0.3 00:11:22:33:44:66 noarp -> done
-2 100000 33 send 10.0.0.1 -> sent
+2 30000 - sweep -> -
+3 60000 - sweep -> -
+4 90000 - sweep -> -
+5 100000 33 send 10.0.0.1 -> sent
   tx 33 001122334455020000000002080001
-3 100000 65 send 10.0.0.3 -> sent
+6 100000 65 send 10.0.0.3 -> sent
   tx 65 001122334466020000000002080002
-4 200000 96 show -> counted 2
+7 120000 - sweep -> -
+8 150000 - sweep -> -
+9 180000 - sweep -> -
+10 200000 96 show -> counted 2
   entry 10.0.0.1 dev eth0 lladdr 00:11:22:33:44:55 PERMANENT
   entry 10.0.0.3 dev eth0 lladdr 00:11:22:33:44:66 NOARP
 host lines 3
 1 0 neigh op 0 0 done
 2 0 neigh op 0 1 done
-3 200000 neigh op 0 4 counted 2
+3 200000 neigh op 0 10 counted 2
 sender 1 items 2
-1 100000 inline 2 sent
-2 100000 inline 3 sent
+1 100000 inline 5 sent
+2 100000 inline 6 sent
 marks 0
 fates sent 2 fast 0 dropped 0 waiting 0
 table 2
@@ -163,15 +169,16 @@ end
 @40000 neigh show
 ",
         report: "\
-bucket 0 lines 4
+bucket 0 lines 5
 0 0 32 add 10.0.0.1 00:11:22:33:44:55 reachable -> done
 1 30000 - timer 10.0.0.1 -> -
-2 30010 - timer 10.0.0.1 -> -
-3 40000 64 show -> counted 1
+2 30000 - sweep -> -
+3 30010 - timer 10.0.0.1 -> -
+4 40000 64 show -> counted 1
   entry 10.0.0.1 dev eth0 lladdr 00:11:22:33:44:55 STALE
 host lines 2
 1 0 neigh op 0 0 done
-2 40000 neigh op 0 3 counted 1
+2 40000 neigh op 0 4 counted 1
 sender 1 items 0
 marks 0
 fates sent 0 fast 0 dropped 0 waiting 0
@@ -193,7 +200,7 @@ end
 @35010 neigh show
 ",
         report: "\
-bucket 0 lines 11
+bucket 0 lines 12
 0 0 32 add 10.0.0.1 00:11:22:33:44:55 reachable -> done
 1 0 64 add 10.0.0.3 00:11:22:33:44:66 reachable -> done
 2 25009 33 send 10.0.0.3 -> sent
@@ -202,21 +209,22 @@ bucket 0 lines 11
   tx 65 001122334455020000000002080002
 4 30000 - timer 10.0.0.1 -> -
 5 30000 - timer 10.0.0.3 -> -
-6 30010 - timer 10.0.0.1 -> -
-7 30010 - timer 10.0.0.3 -> -
-8 30010 96 show -> counted 2
+6 30000 - sweep -> -
+7 30010 - timer 10.0.0.1 -> -
+8 30010 - timer 10.0.0.3 -> -
+9 30010 96 show -> counted 2
   entry 10.0.0.1 dev eth0 lladdr 00:11:22:33:44:55 DELAY
   entry 10.0.0.3 dev eth0 lladdr 00:11:22:33:44:66 STALE
-9 35010 - timer 10.0.0.1 -> -
+10 35010 - timer 10.0.0.1 -> -
   solicit 001122334455020000000002080600010800060400010200000000020a0000020000000000000a000001
-10 35010 128 show -> counted 2
+11 35010 128 show -> counted 2
   entry 10.0.0.1 dev eth0 lladdr 00:11:22:33:44:55 PROBE
   entry 10.0.0.3 dev eth0 lladdr 00:11:22:33:44:66 STALE
 host lines 4
 1 0 neigh op 0 0 done
 2 0 neigh op 0 1 done
-3 30010 neigh op 0 8 counted 2
-4 35010 neigh op 0 10 counted 2
+3 30010 neigh op 0 9 counted 2
+4 35010 neigh op 0 11 counted 2
 sender 1 items 2
 1 25009 inline 2 sent
 2 25010 inline 3 sent
@@ -276,25 +284,96 @@ end
 @35010 neigh show
 ",
         report: "\
-bucket 0 lines 6
+bucket 0 lines 7
 0 0 32 add 10.0.0.1 00:11:22:33:44:55 reachable -> done
 1 30000 - timer 10.0.0.1 -> -
-2 30010 - timer 10.0.0.1 -> -
-3 30010 33 send 10.0.0.1 -> sent
+2 30000 - sweep -> -
+3 30010 - timer 10.0.0.1 -> -
+4 30010 33 send 10.0.0.1 -> sent
   tx 33 001122334455020000000002080001
-4 35010 - timer 10.0.0.1 -> -
+5 35010 - timer 10.0.0.1 -> -
   solicit 001122334455020000000002080600010800060400010200000000020a0000020000000000000a000001
-5 35010 64 show -> counted 1
+6 35010 64 show -> counted 1
   entry 10.0.0.1 dev eth0 lladdr 00:11:22:33:44:55 PROBE
 host lines 2
 1 0 neigh op 0 0 done
-2 35010 neigh op 0 5 counted 1
+2 35010 neigh op 0 6 counted 1
 sender 1 items 1
-1 30010 inline 3 sent
+1 30010 inline 4 sent
 marks 0
 fates sent 1 fast 0 dropped 0 waiting 0
 table 1
 10.0.0.1 dev eth0 lladdr 00:11:22:33:44:55 PROBE
+proxies 0
+end
+",
+    },
+    Worked {
+        shows: "sweeps_of_an_empty_table",
+        senders: 1,
+        script: "\
+@29999 neigh show
+@30000 neigh show
+@60001 neigh show
+",
+        report: "\
+bucket 0 lines 5
+0 29999 32 show -> counted 0
+1 30000 - sweep -> -
+2 30000 64 show -> counted 0
+3 60000 - sweep -> -
+4 60001 96 show -> counted 0
+host lines 3
+1 29999 neigh op 0 0 counted 0
+2 30000 neigh op 0 2 counted 0
+3 60001 neigh op 0 4 counted 0
+sender 1 items 0
+marks 0
+fates sent 0 fast 0 dropped 0 waiting 0
+table 0
+proxies 0
+end
+",
+    },
+    Worked {
+        shows: "sweeps_spare_a_small_table",
+        senders: 1,
+        script: "\
+@0 neigh add 10.0.0.1 lladdr 00:11:22:33:44:55 nud stale
+@0 send 1 10.0.0.3 01
+@200000 neigh show
+",
+        report: "\
+bucket 0 lines 12
+0 0 32 add 10.0.0.1 00:11:22:33:44:55 stale -> done
+1 0 33 send 10.0.0.3 -> waits
+  solicit ffffffffffff020000000002080600010800060400010200000000020a0000020000000000000a000003
+  wait 33
+2 1000 - timer 10.0.0.3 -> -
+  solicit ffffffffffff020000000002080600010800060400010200000000020a0000020000000000000a000003
+3 2000 - timer 10.0.0.3 -> -
+  solicit ffffffffffff020000000002080600010800060400010200000000020a0000020000000000000a000003
+4 3000 - timer 10.0.0.3 -> -
+  drop 33 unresolved
+5 30000 - sweep -> -
+6 60000 - sweep -> -
+7 90000 - sweep -> -
+8 120000 - sweep -> -
+9 150000 - sweep -> -
+10 180000 - sweep -> -
+11 200000 64 show -> counted 2
+  entry 10.0.0.1 dev eth0 lladdr 00:11:22:33:44:55 STALE
+  entry 10.0.0.3 dev eth0 FAILED
+host lines 2
+1 0 neigh op 0 0 done
+2 200000 neigh op 0 11 counted 2
+sender 1 items 1
+1 0 inline 1 waits
+marks 0
+fates sent 0 fast 0 dropped 1 waiting 0
+table 2
+10.0.0.1 dev eth0 lladdr 00:11:22:33:44:55 STALE
+10.0.0.3 dev eth0 FAILED
 proxies 0
 end
 ",

@@ -6,6 +6,7 @@ pub const SCRIPTS: [Worked; 10] = [
         shows: "unresolved_after_three_probes",
         senders: 1,
         script: "\
+param unres_qlen_bytes 800
 @0 send 1 10.0.0.1 01
 @0 send 1 10.0.0.1 02
 @0 send 1 10.0.0.1 03
@@ -21,7 +22,7 @@ bucket 0 lines 8
   wait 65
 2 0 97 send 10.0.0.1 -> waits
   wait 97
-3 0 129 send 10.0.0.1 -> waits dropping 33
+3 0 129 send 10.0.0.1 -> waits dropping 1
   drop 33 queuefull
   wait 129
 4 1000 - timer 10.0.0.1 -> -
@@ -40,7 +41,7 @@ sender 1 items 4
 1 0 inline 0 waits
 2 0 inline 1 waits
 3 0 inline 2 waits
-4 0 inline 3 waits dropping 33
+4 0 inline 3 waits dropping 1
 marks 0
 fates sent 0 fast 0 dropped 4 waiting 0
 table 1
@@ -249,10 +250,10 @@ end
 ",
     },
     Worked {
-        shows: "queue_of_one_keeps_the_newest",
+        shows: "room_for_one_keeps_the_newest",
         senders: 1,
         script: "\
-param unres_qlen 1
+param unres_qlen_bytes 513
 @0 send 1 10.0.0.1 01
 @1 send 1 10.0.0.1 02
 @1 send 1 10.0.0.1 03
@@ -263,10 +264,10 @@ bucket 0 lines 4
 0 0 33 send 10.0.0.1 -> waits
   solicit ffffffffffff020000000002080600010800060400010200000000020a0000020000000000000a000001
   wait 33
-1 1 65 send 10.0.0.1 -> waits dropping 33
+1 1 65 send 10.0.0.1 -> waits dropping 1
   drop 33 queuefull
   wait 65
-2 1 97 send 10.0.0.1 -> waits dropping 65
+2 1 97 send 10.0.0.1 -> waits dropping 1
   drop 65 queuefull
   wait 97
 3 2 32 change 10.0.0.1 00:11:22:33:44:55 reachable -> done
@@ -275,8 +276,8 @@ host lines 1
 1 2 neigh op 0 3 done
 sender 1 items 3
 1 0 inline 0 waits
-2 1 inline 1 waits dropping 33
-3 1 inline 2 waits dropping 65
+2 1 inline 1 waits dropping 1
+3 1 inline 2 waits dropping 1
 marks 0
 fates sent 1 fast 0 dropped 2 waiting 0
 table 1
@@ -286,10 +287,10 @@ end
 ",
     },
     Worked {
-        shows: "queue_of_five_goes_out_in_order",
+        shows: "room_for_five_goes_out_in_order",
         senders: 1,
         script: "\
-param unres_qlen 5
+param unres_qlen_bytes 1285
 @0 send 1 10.0.0.1 01
 @0 send 1 10.0.0.1 02
 @0 send 1 10.0.0.1 03
@@ -311,7 +312,7 @@ bucket 0 lines 7
   wait 129
 4 0 161 send 10.0.0.1 -> waits
   wait 161
-5 0 193 send 10.0.0.1 -> waits dropping 33
+5 0 193 send 10.0.0.1 -> waits dropping 1
   drop 33 queuefull
   wait 193
 6 1 32 replace 10.0.0.1 00:11:22:33:44:66 noarp -> done
@@ -328,7 +329,7 @@ sender 1 items 6
 3 0 inline 2 waits
 4 0 inline 3 waits
 5 0 inline 4 waits
-6 0 inline 5 waits dropping 33
+6 0 inline 5 waits dropping 1
 marks 0
 fates sent 5 fast 0 dropped 1 waiting 0
 table 1

@@ -25,13 +25,13 @@ pub replay_inline-requires-clause-operations : goal.replay_inline-requires-claus
 replay_inline-requires-clause-operations c = subst (λ (p : Plan). has_given_ops p ≡ true) (sym c.in_ok-plan.ensures.value) (script_given c.args.script.now 50 1 c.requires.within)
 
 pub fates-requires-clause-params : goal.fates-requires-clause-params
-fates-requires-clause-params c = (has_text c.args.script.now 50 c.in_ok-plan.plan c.in_ok-run.run' c.in_ok-plan.ensures.value c.requires.within c.in_ok-run.ensures.run c.in_ok-run.ensures.short).params
+fates-requires-clause-params c = (has_text c.args.script.now 50 c.in_ok-plan.plan c.in_ok-run.run' c.in_ok-plan.ensures.value c.requires.within (c.in_ok-plan.ensures.within (script_within c.args.script.now c.requires.within c.requires.few)) c.in_ok-run.ensures.run c.in_ok-run.ensures.short).params
 
 pub fates-requires-clause-few : goal.fates-requires-clause-few
-fates-requires-clause-few c = (has_text c.args.script.now 50 c.in_ok-plan.plan c.in_ok-run.run' c.in_ok-plan.ensures.value c.requires.within c.in_ok-run.ensures.run c.in_ok-run.ensures.short).few
+fates-requires-clause-few c = (has_text c.args.script.now 50 c.in_ok-plan.plan c.in_ok-run.run' c.in_ok-plan.ensures.value c.requires.within (c.in_ok-plan.ensures.within (script_within c.args.script.now c.requires.within c.requires.few)) c.in_ok-run.ensures.run c.in_ok-run.ensures.short).few
 
 pub fates-requires-clause-steps : goal.fates-requires-clause-steps
-fates-requires-clause-steps c = (has_text c.args.script.now 50 c.in_ok-plan.plan c.in_ok-run.run' c.in_ok-plan.ensures.value c.requires.within c.in_ok-run.ensures.run c.in_ok-run.ensures.short).steps
+fates-requires-clause-steps c = (has_text c.args.script.now 50 c.in_ok-plan.plan c.in_ok-run.run' c.in_ok-plan.ensures.value c.requires.within (c.in_ok-plan.ensures.within (script_within c.args.script.now c.requires.within c.requires.few)) c.in_ok-run.ensures.run c.in_ok-run.ensures.short).steps
 
 pub fates-requires-clause-packets : goal.fates-requires-clause-packets
 fates-requires-clause-packets c = few_packets c.args.script.now 50 c.in_ok-plan.plan c.in_ok-run.run' c.in_ok-plan.ensures.value c.requires.within c.requires.few (c.in_ok-plan.ensures.within (script_within c.args.script.now c.requires.within c.requires.few)) c.in_ok-run.ensures.run
