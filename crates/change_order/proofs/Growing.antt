@@ -6,7 +6,7 @@ use Rattle.change_order.specs.declared.part.Part.{Part}
 use Rattle.change_order.specs.Ticks.{IsLater, IsNext, second}
 use Rattle.change_order.specs.Growing.{with_change}
 use Rattle.change_order.specs.Orders.{LookingLine, JournalCounts, AreAmong, IsLookOf, HasCounts}
-use Rattle.change_order.specs.Growing.{with_changing_line, with_falling, with_looking_line, part_of, AwaitsLine, JournalsGrowLineByLine}
+use Rattle.change_order.specs.Growing.{with_changing_line, with_looking_line, part_of, AwaitsLine, JournalsGrowLineByLine}
 use Rattle.change_order.proofs.Lists.{length-snoc, each_snoc}
 
 among_longer : {A : Type 0} (xs ys zs : List A) → AreAmong xs ys → AreAmong xs (ys ++ zs)
@@ -140,10 +140,6 @@ line_by_line = record {
   line = line_counts;
   none = none_counts;
 }
-
--- one more entry less
-pub falling-more : (present n : ℕ) (t : JournalCounts) → with_falling present (n + 1) t ≡ with_changing_line (present - (n + 1)) (with_falling present n t)
-falling-more present n t = (let e : n + 1 ≡ suc n = omega arith in ap (λ (m : ℕ). with_falling present m t) e ∙ ap (λ (m : ℕ). with_changing_line (present - m) (with_falling present n t)) (sym e))
 
 -- a list has one more
 pub next-length : (old new changes looks : List (ℕ × ℕ)) (number : ℕ) → IsNext old new changes looks number → length new ≡ length old + 1

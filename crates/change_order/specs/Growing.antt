@@ -1,5 +1,5 @@
 -- How a bucket's journal and its changes and looks grow together, line by line (this project's own).
-use Rattle.std.specs.Prelude.{◌≡◌, ℕ, zero, suc, ◌-◌, List, [], ◌∷◌, ◌++◌, length}
+use Rattle.std.specs.Prelude.{◌≡◌, ℕ, List, [], ◌∷◌, ◌++◌, length}
 use Rattle.change_order.specs.declared.part.Part.{Part}
 use Rattle.change_order.specs.Ticks.{IsNext}
 use Rattle.change_order.specs.Orders.{LookingLine, JournalCounts, IsLookOf, HasCounts}
@@ -27,11 +27,6 @@ with_changing_line present j = record j { behind = j.behind ++ present ∷ [] }
 -- one more line that looked
 abbrev pub with_looking_line : LookingLine → JournalCounts → JournalCounts
 with_looking_line line j = record j { looked = j.looked ++ line ∷ [] }
-
--- as many changing lines, each with one entry less, where so many were present before
-abbrev pub with_falling : ℕ → ℕ → JournalCounts → JournalCounts
-with_falling present zero j = j
-with_falling present (suc n) j = with_changing_line (present - suc n) (with_falling present n j)
 
 -- the last look waits for this line: the journal has all changes and the looks before it, and it will be the line's look
 pub record AwaitsLine (p : Part) (j : JournalCounts) (line : LookingLine) : Type 0 where

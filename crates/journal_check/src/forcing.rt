@@ -11,9 +11,10 @@ ghost use Rattle.nb_journal.specs.Steps.{IsStep, effect_named};
 ghost use Rattle.journal_check.specs.Evaluated as test;
 
 use crate::states::{is_present, present_count, state_behind};
+use crate::sweeping::is_bare;
 use nb_base::{Key, Line, Moment, Op, Params};
 use nb_journal::{
-    Effect, PASS_MILLIS, effect_of, is_collect, is_collectable, is_key, is_own, key_of,
+    Effect, effect_of, is_collect, is_collectable, is_key, is_own, is_pass_due, key_of,
 };
 use std::alloc::{AllocError, Global};
 
@@ -83,14 +84,6 @@ fn seen_of(line: &Line) -> u32
     line.seen.unwrap_or(0)
 }
 
-/// Whether a forced pass is due, from what a line saw and the moment of the last one.
-fn is_pass_due(params: &Params, seen: u32, last: Moment, at: Moment) -> bool
-    requires { last ≤ greatest }
-    ensures { result ≡ lawful.is_pass_due params.now seen last at }
-{
-    params.gc_thresh3 <= seen || (params.gc_thresh2 <= seen && last.after(PASS_MILLIS) < at)
-}
-
 /// The moment of the last forced pass behind one line more.
 fn pass_after(
     alloc: Global,
@@ -149,12 +142,6 @@ fn made_last(
         return Ok(None);
     }
     making(alloc, params, base_of(past), line)
-}
-
-fn is_bare(line: &Line) -> bool
-    ensures { result ≡ test.is_bare line.now }
-{
-    line.id.is_none() && line.full.is_none()
 }
 
 fn collects_key(key: &Key, op: &Op) -> bool

@@ -44,7 +44,8 @@ fn is_sweep_moment(params: &Params, moment: Moment) -> bool
     moment.millis() % u64::from(params.gc_interval) == 0 && moment.millis() > 0
 }
 
-fn is_bare(line: &Line) -> bool
+/// Whether a line is a bucket's own: it has no number and wasn't refused.
+pub fn is_bare(line: &Line) -> bool
     ensures { result ≡ test.is_bare line.now }
 {
     line.id.is_none() && line.full.is_none()

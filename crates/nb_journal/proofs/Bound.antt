@@ -15,7 +15,7 @@ use Rattle.nb_base.specs.Params.{InRange}
 use Rattle.nb_journal.specs.Keys.{has_key, is_own, is_timer, is_sweep, key_of}
 use Rattle.nb_journal.specs.Fold.{is_present, seen_of, state_of, known_keys}
 use Rattle.nb_journal.specs.Lawful.{each_line, EachLine, last_moment, IsTimersTurn, is_before_sweep, before_sweep, is_collect, base_of, making_order, is_collectable, has_pass, taken_by_pass, collect_line, collects, HasItsPass}
-use Rattle.nb_journal.specs.Accounts.{total_potential, own_lines, line_bound}
+use Rattle.nb_journal.specs.Accounts.{own_lines, line_bound}
 use Rattle.nb_journal.specs.Laws.{LawfulInBound, BrokenOffInBound}
 use Rattle.nb_journal.proofs.Lines.{by_last, each-last, last_moment-snoc, base_of-collect, base_of-other}
 use Rattle.nb_journal.proofs.Folds.{filter_within}
@@ -25,6 +25,7 @@ use Rattle.nb_journal.proofs.Passes.{own-full}
 use Rattle.nb_journal.proofs.Totals.{total-free, total-line, total-timer, total-collects}
 use Rattle.nb_journal.proofs.Counts.{AreDistinct}
 use Rattle.nb_journal.proofs.Orders.{order-is, collected-within, collected-distinct}
+use Rattle.nb_journal.proofs.Sums.{total_potential}
 
 abbrev sweep_lines : List Line → List Line
 sweep_lines journal = filter (λ line. is_sweep line.op) journal

@@ -12,12 +12,12 @@ use Rattle.nud_machine.specs.declared.event.Event.TheVariants as event
 use Rattle.nud_machine.specs.State.{State, Stepped, absent}
 use Rattle.nb_journal.specs.Keys.{is_key, key_of, made_known}
 use Rattle.nb_journal.specs.Fold.{Effect, Passes, Brings, effect, saw_enough, is_swept, meet, change, state_of, with_key, known_keys}
-use Rattle.nb_journal.specs.Accounts.{sum_over}
 use Rattle.nb_journal.proofs.Changes.{is_key-same, change-other}
 use Rattle.nb_journal.proofs.Lines.{by_last}
 use Rattle.nb_journal.proofs.Folds.{state_of-nil, state_of-snoc, known_keys-nil, known_keys-snoc}
 use Rattle.nb_journal.proofs.Dues.{change-either}
 use Rattle.nb_journal.proofs.Grows.{is_key-one, has_key}
+use Rattle.nb_journal.proofs.Sums.{sum_over}
 
 -- each key stands once
 abbrev pub AreDistinct : List Key → Type 0

@@ -14,10 +14,11 @@ use Rattle.nud_machine.specs.declared.act.Act.TheVariants as act
 use Rattle.nud_machine.specs.Laws.{leaving, ids_of}
 use Rattle.nb_journal.specs.Fold.{id_of, state_of, known_keys}
 use Rattle.nb_journal.specs.Lawful.{EachLine}
-use Rattle.nb_journal.specs.Accounts.{Fate, Waits, is_id, fate_by_act, acts_at, acts_behind, ends_behind, is_waiting, fates_of, ended, sum_over, sends_packet, times_sent}
+use Rattle.nb_journal.specs.Accounts.{Fate, Waits, is_id, fate_by_act, acts_at, acts_behind, ends_behind, is_waiting, fates_of, ended, sends_packet, times_sent}
 use Rattle.nb_journal.specs.Laws.{EachSendHasOneFate}
 use Rattle.nb_journal.proofs.Fits.{Fits, lawful-runs}
 use Rattle.nb_journal.proofs.PacketCounts.{count, count-append, ended-append, waits_at, packet_of, packets_of, balance}
+use Rattle.nb_journal.proofs.Sums.{sum_over}
 
 -- ---- ends are as many as their places
 

@@ -12,10 +12,11 @@ use Rattle.nud_machine.specs.declared.act.Act.TheVariants as act
 use Rattle.nud_machine.specs.Laws.{ids_of}
 use Rattle.nb_journal.specs.Keys.{is_send}
 use Rattle.nb_journal.specs.Fold.{state_of, known_keys, is_transmit}
-use Rattle.nb_journal.specs.Accounts.{ended, sum_over, is_drop, acts_behind, send_lines}
+use Rattle.nb_journal.specs.Accounts.{ended, is_drop, acts_behind, send_lines}
 use Rattle.nb_journal.specs.Laws.{FatesAddUp}
 use Rattle.nb_journal.proofs.Fits.{lawful-runs}
 use Rattle.nb_journal.proofs.PacketCounts.{count, packet_of, packets_of, balance}
+use Rattle.nb_journal.proofs.Sums.{sum_over}
 
 -- every packet
 abbrev any : OpId → Bool

@@ -10,6 +10,7 @@ pub mod Potential
 pub mod Publishes
 pub mod Passes
 pub mod Promises
+pub mod Sums
 pub mod Counts
 pub mod Totals
 pub mod Orders

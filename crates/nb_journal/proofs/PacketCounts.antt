@@ -17,7 +17,7 @@ use Rattle.nud_machine.specs.Laws.{leaving, ids_of}
 use Rattle.nb_journal.specs.Keys.{is_key, made_known}
 use Rattle.nb_journal.specs.Fold.{id_of, change, state_of, acts_of, known_keys, with_key}
 use Rattle.nb_journal.specs.Lawful.{EachLine}
-use Rattle.nb_journal.specs.Accounts.{acts_at, ended, sent_by, sum_over, acts_behind}
+use Rattle.nb_journal.specs.Accounts.{acts_at, ended, sent_by, acts_behind}
 use Rattle.nb_journal.proofs.Lines.{by_last, each-last}
 use Rattle.nb_journal.proofs.Folds.{state_of-snoc, known_keys-nil, known_keys-snoc}
 use Rattle.nb_journal.proofs.Changes.{is_key-same}
@@ -25,6 +25,7 @@ use Rattle.nb_journal.proofs.Grows.{has_key}
 use Rattle.nb_journal.proofs.Counts.{AreDistinct, key_cases, is_key-flip, has_key-snoc, known_keys-distinct, state_of-unknown, sum_over-append}
 use Rattle.nb_journal.proofs.Fits.{Fits}
 use Rattle.nb_journal.proofs.Queues.{line_order}
+use Rattle.nb_journal.proofs.Sums.{sum_over}
 
 -- how many packets of a list pass a test
 abbrev pub count : (OpId → Bool) → List OpId → ℕ

@@ -19,7 +19,8 @@ use Rattle.nud_machine.specs.Record.{unusable}
 use Rattle.nb_journal.specs.Keys.{is_key}
 use Rattle.nb_journal.specs.Fold.{change, state_of, acts_of, known_keys, rank_of, present_count, reply_of}
 use Rattle.nb_journal.specs.Lawful.{IsLawful, due_of, before_sweep, sweep_line, last_pass, making_order, collects, collect_line, full_of}
-use Rattle.nb_journal.specs.Accounts.{Dropped, Waits, fates_of, published, total_potential, timer_line, line_bound}
+use Rattle.nb_journal.specs.Accounts.{Dropped, Waits, fates_of, published, timer_line, line_bound}
+use Rattle.nb_journal.proofs.Sums.{total_potential}
 
 abbrev id : ℕ → OpId
 id n = record { 0 = n }

@@ -14,13 +14,14 @@ use Rattle.nud_machine.specs.Step.{step}
 use Rattle.nb_journal.specs.Keys.{is_key, key_of, made_known}
 use Rattle.nb_journal.specs.Fold.{effect, if_so, is_loose, is_swept, saw_enough, meet, state_of, with_key, known_keys, is_present}
 use Rattle.nb_journal.specs.Lawful.{due_of, collect_line}
-use Rattle.nb_journal.specs.Accounts.{potential, sum_over, total_potential}
+use Rattle.nb_journal.specs.Accounts.{potential}
 use Rattle.nb_journal.proofs.Changes.{is_key-same, change-named, change-other}
 use Rattle.nb_journal.proofs.Folds.{state_of-snoc, known_keys-snoc}
 use Rattle.nb_journal.proofs.Dues.{change-either}
 use Rattle.nb_journal.proofs.Grows.{is_key-one, has_key}
 use Rattle.nb_journal.proofs.Potential.{potential-most, state_of-timed, due-timed, timer-lowers}
 use Rattle.nb_journal.proofs.Counts.{AreDistinct, known_keys-distinct, state_of-unknown, known-unless, sum_over-append, sum_over-less, sum_over-one, sum_over-lower}
+use Rattle.nb_journal.proofs.Sums.{sum_over, total_potential}
 
 -- a key's potential behind a journal
 abbrev pub number : Params → List Line → Key → ℕ

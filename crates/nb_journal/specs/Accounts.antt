@@ -175,15 +175,6 @@ timers_left nud.Permanent p e = 0
 abbrev pub potential : Params → Entry → ℕ
 potential p e = if e.present then timers_left e.nud p e + 1 else 0
 
--- the sum of a number of each key
-abbrev pub sum_over : (Key → ℕ) → List Key → ℕ
-sum_over number [] = 0
-sum_over number (key ∷ keys) = number key + sum_over number keys
-
--- the sum of the potentials of all keys
-unfoldable pub total_potential : Params → List Line → ℕ
-total_potential p journal = sum_over (λ key. potential p (state_of p journal key).entry) (known_keys journal)
-
 -- a timer's line
 abbrev pub timer_line : ℕ → Key → Line
 timer_line at key = bare_line at (op.Timer key) None
@@ -205,6 +196,10 @@ operation_of line = record { at = line.at; id = line.id; op = line.op }
 -- the operations of a journal, in order
 abbrev pub operations : List Line → List Operation
 operations journal = map operation_of (own_lines journal)
+
+-- the most lines that a journal may have: 2^22
+abbrev pub most_lines : ℕ
+most_lines = 4_194_304
 
 -- the most lines that a bucket can have with so many operations up to a moment
 abbrev pub line_bound : Params → ℕ → ℕ → ℕ

@@ -1,5 +1,5 @@
 -- What a journal means for each key: the effect of an operation on an entry, states and acts by a fold over the lines, and replies (the rules of a bucket are this project's own, after ip-neighbour(8) and Linux).
-use Rattle.std.specs.Prelude.{ℕ, ◌+◌, Bool, true, false, ◌||◌, ◌&&◌, not, nat_le, nat_lt, is_none, unwrap_or, if◌then◌else◌, List, [], Option, Some, is_some, ◌∷◌, ◌++◌, fold, filter, length, None}
+use Rattle.std.specs.Prelude.{ℕ, ◌+◌, Bool, true, false, ◌||◌, ◌&&◌, not, nat_le, nat_lt, is_none, unwrap_or, if◌then◌else◌, List, [], Option, Some, is_some, ◌∷◌, fold, filter, length, None}
 use Rattle.std.specs.Option.{option_map_or}
 use Rattle.nb_base.specs.declared.mac.Mac.{Mac}
 use Rattle.nb_base.specs.declared.time.OpId.{OpId}
@@ -22,6 +22,7 @@ use Rattle.nud_machine.specs.declared.act.Act.{Act}
 use Rattle.nud_machine.specs.declared.act.Act.TheVariants.{Drop}
 use Rattle.nud_machine.specs.declared.act.Cause.TheVariants.{TableFull}
 use Rattle.nud_machine.specs.Step.{step}
+use Rattle.nb_queues.specs.SameKey as same
 use Rattle.nb_journal.specs.Keys.{is_key, key_of, made_known, place_among, is_own}
 use Rattle.nud_machine.specs.declared.act.Act.TheVariants as act
 use Rattle.nud_machine.specs.declared.act.Cause.TheVariants as cause
@@ -132,7 +133,7 @@ acts_of p past line key = (change p line key (state_of p past key)).acts
 -- the keys with one more, unless it is there
 abbrev pub with_key : List Key → Option Key → List Key
 with_key keys None = keys
-with_key keys (Some key) = if list_any (λ other. is_key other key) keys then keys else keys ++ key ∷ []
+with_key keys (Some key) = same.with_key keys key
 
 -- the keys that a journal knows, in the order of the first lines that made them known
 unfoldable pub known_keys : List Line → List Key

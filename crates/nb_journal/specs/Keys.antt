@@ -1,18 +1,13 @@
 -- The keys that operations name.
-use Rattle.std.specs.Prelude.{ℕ, ◌+◌, Bool, true, false, ◌==◌, ◌&&◌, nat_le, if◌then◌else◌, List, [], ◌∷◌, Option, Some, None}
-use Rattle.std.specs.List.{list_any, list_all}
+use Rattle.std.specs.Prelude.{ℕ, ◌+◌, Bool, true, false, ◌&&◌, nat_le, if◌then◌else◌, List, [], ◌∷◌, Option, Some, None}
+use Rattle.std.specs.List.{list_all}
 use Rattle.nb_base.specs.declared.key.Key.{Key}
-use Rattle.nb_base.specs.declared.key.Key.TheVariants.{V4, V6}
 use Rattle.nb_base.specs.declared.op.Op.{Op}
 use Rattle.nb_base.specs.declared.op.Op.TheVariants as op
 use Rattle.nb_base.specs.declared.line.Line.{Line}
 use Rattle.nud_machine.specs.Asked.{is_settable}
-
--- two keys are of one family and have one address
-unfoldable pub is_key : Key → Key → Bool
-is_key (V4 a) (V4 b) = a == b
-is_key (V6 a) (V6 b) = a == b
-is_key _ _ = false
+unfoldable pub use Rattle.nb_queues.specs.SameKey.{is_key}
+pub use Rattle.nb_queues.specs.SameKey.{has_key}
 
 -- the key that an operation names
 abbrev pub key_of : Op → Option Key
@@ -66,10 +61,6 @@ is_send _ = false
 abbrev pub place_among : List Key → Key → ℕ
 place_among [] key = 0
 place_among (other ∷ others) key = if is_key other key then 0 else place_among others key + 1
-
--- a key stands among keys
-abbrev pub has_key : List Key → Key → Bool
-has_key keys key = list_any (λ other. is_key other key) keys
 
 -- an operation that may be asked for: by hand an entry becomes PERMANENT, NOARP, REACHABLE or STALE, and a packet has 1 to 1,500 bytes
 abbrev pub may_be_asked : Op → Bool

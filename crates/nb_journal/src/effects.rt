@@ -5,7 +5,6 @@ ghost use Rattle.nb_base.specs.declared.nud.Nud.TheVariants.{Failed};
 ghost use Rattle.nud_machine.specs.Asked.{greatest, IsInRun};
 ghost use Rattle.nud_machine.specs.State.{same_nud};
 ghost use Rattle.nud_machine.specs.declared.event.Event.TheVariants.{Admin};
-ghost use Rattle.nud_machine.specs.Update as update;
 ghost use Rattle.nb_journal.specs.Fold as spec;
 ghost use Rattle.nb_journal.specs.Keys.{may_be_asked};
 ghost use Rattle.nb_journal.specs.Lawful as lawful;
@@ -13,7 +12,7 @@ ghost use Rattle.nb_journal.specs.Steps.{effect_named, state_in};
 
 use crate::Kept;
 use nb_base::{Line, Mac, Moment, Nud, Op, OpId, Params, Reply};
-use nud_machine::Event;
+use nud_machine::{Event, is_fixed};
 
 /// How long no forced pass follows another one in a table that isn't full, and how long an entry that changed is kept by one,
 /// in milliseconds.
@@ -60,12 +59,6 @@ fn is_past(at: Moment, since: Option<Moment>, millis: u32) -> bool
     }
 }
 
-fn is_fixed(nud: Nud) -> bool
-    ensures { result ≡ update.is_fixed nud }
-{
-    matches!(nud, Nud::Permanent | Nud::Noarp)
-}
-
 fn is_failed(nud: Nud) -> bool
     ensures { result ≡ same_nud nud Failed }
 {
@@ -105,6 +98,14 @@ pub fn is_collectable(at: Moment, kept: &Kept) -> bool
     is_loose(kept)
         && !has_waiting(kept)
         && (is_failed(kept.entry.nud) || is_past(at, Some(kept.entry.updated), PASS_MILLIS))
+}
+
+/// Whether a forced pass is due, from how many entries a line saw and the moment of the last pass.
+pub fn is_pass_due(params: &Params, seen: u32, last: Moment, at: Moment) -> bool
+    requires { last ≤ greatest }
+    ensures { result ≡ lawful.is_pass_due params.now seen last at }
+{
+    params.gc_thresh3 <= seen || (params.gc_thresh2 <= seen && last.after(PASS_MILLIS) < at)
 }
 
 /// The event, or else nothing.

@@ -8,7 +8,7 @@ ghost use Rattle.nb_journal.specs.Steps as steps;
 use nb_base::{Key, Line, Moment, Nud, Op};
 
 /// Whether the keys are of one family and have one address.
-#[tactic(auto, unfolding(crate::specs::Keys::is_key))]
+#[tactic(auto, unfolding(nb_queues::specs::SameKey::is_key))]
 pub fn is_key(a: &Key, b: &Key) -> bool
     ensures { result ≡ spec.is_key a.now b.now }
 {

@@ -23,4 +23,5 @@ pub use laws::{
     every_step_keeps_the_order, every_step_stays_in_run, every_timer_moves_the_due,
 };
 pub use machine::step;
+pub use news::{is_fixed, same_mac};
 pub use published::{due, record};

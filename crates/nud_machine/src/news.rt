@@ -38,6 +38,7 @@ pub enum Rule {
     IsTaken,
 }
 
+/// Whether both are one address, or neither is any. Takes no memory.
 pub fn same_mac(a: Option<Mac>, b: Option<Mac>) -> bool
     ensures { result ≡ state.same_mac a b }
 {
@@ -54,7 +55,8 @@ pub fn same_nud(a: Nud, b: Nud) -> bool
     a.bits() == b.bits()
 }
 
-fn is_fixed(nud: Nud) -> bool
+/// Whether an entry in the state is changed by hand alone: PERMANENT or NOARP. Takes no memory.
+pub fn is_fixed(nud: Nud) -> bool
     ensures { result ≡ spec_update.is_fixed nud }
 {
     matches!(nud, Nud::Permanent | Nud::Noarp)
