@@ -5,6 +5,7 @@ pub mod Named
 pub mod Replied
 pub mod Counted
 pub mod Whole
+pub mod Mixed
 pub mod Looks
 pub mod Ranks
 pub mod Heard

@@ -5,3 +5,4 @@ pub mod Verdicts
 pub mod Hearing
 pub mod Touched
 pub mod Removing
+pub mod Present

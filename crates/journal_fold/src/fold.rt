@@ -10,6 +10,7 @@ ghost use Rattle.nb_journal.specs.Keys as keys_of;
 ghost use Rattle.journal_fold.specs.Verdicts.{IsVerdict};
 ghost use Rattle.journal_fold.specs.Hearing.{Hears};
 
+mod over;
 mod taking;
 
 use crate::counts::{count_loose, count_waiting};

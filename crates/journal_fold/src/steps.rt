@@ -1,5 +1,5 @@
 //! What a line does to the keys.
-ghost use Rattle.std.specs.Prelude.{◌≡◌, ◌++◌, ◌∷◌, [], Some, map, set, slice_get, vec_len, vec_capacity};
+ghost use Rattle.std.specs.Prelude.{◌≡◌, ◌++◌, ◌∷◌, [], None, Some, map, set, slice_get, vec_len, vec_capacity};
 ghost use Rattle.std.specs.List.{AllByRecursion};
 ghost use Rattle.nb_base.specs.Params.{InRange};
 ghost use Rattle.nb_journal.specs.Accounts.{acts_at};
@@ -8,6 +8,7 @@ ghost use Rattle.nb_journal.specs.Fold as rules;
 ghost use Rattle.nb_journal.specs.Keys as keys_of;
 ghost use Rattle.journal_fold.specs.Kept.{AreKept, number_present};
 ghost use Rattle.journal_fold.specs.Hearing.{Hears};
+ghost use Rattle.journal_fold.specs.Present.{HoldsPresent};
 
 use crate::hearing::Hearer;
 use crate::known::find_rank;
@@ -102,5 +103,34 @@ pub fn go_on_each<H: Hearer>(
     for (rank, key) in keys.iter().enumerate() {
         go_on_at(kept, present, params, past, line, rank, key, room);
         hearer.hear(room.as_slice());
+    }
+}
+
+/// What a line that names no key does to those of the ranks, which hold all present ones.
+pub fn go_on_ranks(
+    keys: &[Key],
+    kept: &mut Vec<Kept>,
+    present: &mut usize,
+    params: &Params,
+    past: &[Line],
+    line: &Line,
+    ranks: &[u32],
+    room: &mut Acts,
+)
+    requires params { InRange params.now }
+    requires step { IsStep params.now past.now line.now }
+    requires names { keys_of.key_of line.now.op ≡ None }
+    requires keys { keys.now ≡ rules.known_keys past.now }
+    requires kept { AreKept params.now past.now keys.now kept.old.items }
+    requires present { present.old ≡ number_present kept.old.items }
+    requires ranks { HoldsPresent params.now past.now ranks.now }
+    ensures kept { AreKept params.now (past.now ++ line.now ∷ []) keys.now kept.new.items }
+    ensures present { present.new ≡ number_present kept.new.items }
+    ensures len { vec_len kept.new ≡ vec_len kept.old }
+    ensures capacity { vec_capacity kept.new ≡ vec_capacity kept.old }
+{
+    for rank in ranks {
+        let rank = *rank as usize;
+        go_on_at(kept, present, params, past, line, rank, &keys[rank], room);
     }
 }

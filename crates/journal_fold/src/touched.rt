@@ -3,12 +3,12 @@ ghost use Rattle.std.specs.Prelude.{◌≡◌, ◌<◌, ◌++◌, length, map, I
 ghost use Rattle.std.specs.List.{AllByRecursion};
 ghost use Rattle.nb_journal.specs.Keys.{may_be_asked};
 ghost use Rattle.nb_journal.specs.Steps.{IsKept, state_in};
-ghost use Rattle.nud_machine.specs.State as machine;
 ghost use Rattle.journal_fold.specs.Touched as spec;
 ghost use Rattle.journal_fold.specs.Removing as removing;
 
 use nb_base::{Items, Key, Line, Mac, Nud, Params};
 use nb_journal::{Effect, Kept, effect_of};
+use nud_machine::same_mac;
 use std::alloc::{AllocError, Global};
 
 /// What is shown of a present entry.
@@ -43,16 +43,6 @@ pub fn shown_of(kept: &Kept) -> Option<Shown>
         })
     } else {
         None
-    }
-}
-
-fn same_mac(a: Option<Mac>, b: Option<Mac>) -> bool
-    ensures { result ≡ machine.same_mac a b }
-{
-    match (a, b) {
-        (None, None) => true,
-        (Some(a), Some(b)) => a.0 == b.0,
-        _ => false,
     }
 }
 
