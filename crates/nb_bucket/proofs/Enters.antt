@@ -12,7 +12,7 @@ use Rattle.nb_base.specs.Params.{InRange}
 use Rattle.nud_machine.specs.Asked.{greatest}
 use Rattle.nb_journal.specs.Keys.{is_own}
 use Rattle.nb_journal.specs.Fold.{seen_of, present_count}
-use Rattle.nb_journal.specs.Lawful.{before_sweep, base_of, making, HasSeen, is_pass_due, last_pass, making_order, collect_line, collects, has_pass, asked_of_pass, full_of, IsLawful}
+use Rattle.nb_journal.specs.Lawful.{before_sweep, base_of, making, HasSeen, is_pass_due, last_pass, collect_line, collects, has_pass, asked_of_pass, full_of, IsLawful}
 use Rattle.nb_journal.proofs.Folds.{last_pass-snoc}
 use Rattle.nb_journal.proofs.Fits.{before_early}
 use Rattle.nb_journal.proofs.Passes.{goes_on}
@@ -100,11 +100,11 @@ pass-brought p lines l bare =
 
 -- ---- what the bucket's fields are
 
-pub follows-brought : (p : Params) (limit : ℕ) (lines : List Line) (clock next : ℕ) (order : List Key) (pass : ℕ) (l : Line) (after : List Key) (last : ℕ) → FollowsJournal p limit lines clock next order pass
+pub follows-brought : (p : Params) (limit : ℕ) (lines : List Line) (clock next pass : ℕ) (l : Line) (last : ℕ) → FollowsJournal p limit lines clock next pass
     → clock ≤ l.at → l.at ≤ greatest → IsLawful p lines l.at → is_own l.op ≡ true → is_some l.id ≡ true → HasSeen p lines l
-    → length lines + (length (asked_of_pass p lines l) + 1) ≤ limit → after ≡ making_order p (lines ++ brought p lines l) → last ≡ (if has_pass p lines l then l.at else pass) → last ≤ greatest
-    → FollowsJournal p limit (lines ++ brought p lines l) l.at next after last
-follows-brought p limit lines clock next order pass l after last k le now lawful own id seen room made passed early =
+    → length lines + (length (asked_of_pass p lines l) + 1) ≤ limit → last ≡ (if has_pass p lines l then l.at else pass) → last ≤ greatest
+    → FollowsJournal p limit (lines ++ brought p lines l) l.at next last
+follows-brought p limit lines clock next pass l last k le now lawful own id seen room passed early =
     let more = brought-lawful p lines l k.params lawful own id seen in
     record {
       params = k.params;
@@ -113,7 +113,6 @@ follows-brought p limit lines clock next order pass l after last k le now lawful
       in_run = now;
       stands = Lawful more;
       next = next-brought p lines l clock next k.next le (lawful-ahead p lines clock next l.at k.next lawful) more;
-      making = made;
       last = passed ∙ ap (λ (m : ℕ). if has_pass p lines l then l.at else m) k.last ∙ sym (pass-brought p lines l lawful.orderly.passes_only);
       early = early;
     }

@@ -1,7 +1,10 @@
 pub mod NextSweep
-pub mod Best
+pub mod Armed
 pub mod NextTimer
 pub mod Makes
+pub mod Appears
+pub mod Ranks
+pub mod Walks
 pub mod Keeping
 pub mod Along
 pub mod Collects

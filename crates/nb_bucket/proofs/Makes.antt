@@ -17,7 +17,6 @@ use Rattle.nb_journal.proofs.Changes.{is_key-same}
 use Rattle.nb_journal.proofs.Folds.{state_of-snoc, making_order-snoc, last_pass-snoc}
 use Rattle.nb_journal.proofs.Dues.{change-either}
 use Rattle.nb_journal.proofs.Orders.{is_remove, step_present, order-is}
-use Rattle.nb_bucket.specs.Making.{may_remove}
 
 -- ---- lists of keys
 
@@ -30,6 +29,14 @@ filter_all test (k ∷ ks) h =
       later key there = grind (arith, there)
 
 -- ---- presence
+
+-- an operation that can remove an entry
+abbrev pub may_remove : Op → Bool
+may_remove (op.Del key) = true
+may_remove op.Flush = true
+may_remove op.Sweep = true
+may_remove (op.Collect key) = true
+may_remove _ = false
 
 abbrev removes : Effect → Bool
 removes (Brings e) = is_remove e

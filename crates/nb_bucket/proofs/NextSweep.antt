@@ -152,6 +152,11 @@ lawful_at p lines clock next to r stands n lt within none =
 pub lawful-ahead : (p : Params) (lines : List Line) (clock next to : ℕ) → IsNextSweep p lines clock next → IsLawful p lines to → to < next
 lawful-ahead p lines clock next to n lawful = ⊎_elim (λ (lt : to < next). lt) (λ (le : next ≤ to). absurd (not_there next lines n.before (lawful.sweeps next n.moment le))) (cases_lt to next)
 
+-- the clock isn't behind the next sweep
+pub clock-ahead : (p : Params) (lines : List Line) (clock next : ℕ) → Stands p lines clock → IsNextSweep p lines clock next → clock ≤ next
+clock-ahead p lines clock next (Lawful lawful) n = let lt = lawful-ahead p lines clock next clock n lawful in omega (arith, lt)
+clock-ahead p lines clock next (BrokenOff broken) n = ⊎_elim (λ (lt : next < clock). absurd (not_there next lines n.before (broken.sweeps next n.moment lt))) (λ (le : clock ≤ next). le) (cases_lt next clock)
+
 -- and the clock may be set to it
 pub next-later : (p : Params) (lines : List Line) (clock later next : ℕ) → clock ≤ later → IsNextSweep p lines clock next → IsNextSweep p lines later next
 next-later p lines clock later next le n = record {

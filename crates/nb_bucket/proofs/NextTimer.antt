@@ -1,5 +1,5 @@
--- The next timer is that of the first of the least dues.
-use Rattle.std.proofs.Common.{◌≡◌, ◌<◌, ⊎_elim, ℕ, zero, suc, ◌+◌, Bool, true, false, if◌then◌else◌, List, [], ◌∷◌, length, map, get_or, slice_get, Option, Some, None, add-one, refl, sym, ◌∙◌, ap, subst, arith}
+-- The next timer is the least of those that are armed for the known keys.
+use Rattle.std.proofs.Common.{◌≡◌, ◌<◌, ◌≤◌, ⊎_elim, ℕ, zero, suc, ◌+◌, Bool, true, false, if◌then◌else◌, List, [], ◌∷◌, length, map, get_or, slice_get, Option, Some, None, add-one, refl, sym, ◌∙◌, ap, subst, arith}
 use Rattle.std.specs.Option.{option_map}
 use Rattle.std.proofs.lemmas.Bool.{false≢true}
 use Rattle.std.proofs.lemmas.Option.{slice_get-map, slice_get-get_or}
@@ -11,18 +11,30 @@ use Rattle.nud_machine.specs.State.{State, absent}
 use Rattle.nb_journal.specs.declared.kept.Kept.{Kept}
 use Rattle.nb_journal.specs.Keys.{is_key, place_among}
 use Rattle.nb_journal.specs.Fold.{state_of, known_keys}
-use Rattle.nb_journal.specs.Lawful.{due_of, NothingDue, IsNextDue}
+use Rattle.nb_journal.specs.Lawful.{due_of, NothingDue, NothingOverdue, IsNextDue}
 use Rattle.nb_journal.specs.Steps.{state_in}
 use Rattle.nb_journal.specs.Keys.{has_key}
 use Rattle.nb_journal.proofs.Changes.{is_key-same}
-use Rattle.nb_journal.proofs.Dues.{DuesFrom, nothing_due-from, nothing_overdue-from}
+use Rattle.nb_journal.proofs.Dues.{nothing_due-from, nothing_overdue-from, dues_from-nothing_overdue}
 use Rattle.nb_journal.proofs.Counts.{AreDistinct, key_cases, known_keys-distinct, state_of-unknown}
-use Rattle.nb_bucket.specs.Dues.{dues_of, IsLeastDue, HasNoDue}
-use Rattle.nb_bucket.proofs.Best.{within_length}
+use Rattle.timer_wheel.specs.Map.{Timers, NoneArmed, IsLeast}
+use Rattle.timer_wheel.specs.Map as timers
+use Rattle.nb_bucket.specs.Dues.{AreArmed}
 
 -- ---- keys and their places
 
-key_at : (keys : List Key) (key : Key) → has_key keys key ≡ true → slice_get keys (place_among keys key) ≡ Some key
+-- what is there has its place within the list
+pub within_length : {A : Type 0} (xs : List A) (k : ℕ) (y : A) → slice_get xs k ≡ Some y → k < length xs
+within_length [] k y e = cc
+within_length (x ∷ xs) zero y e = omega arith
+within_length (x ∷ xs) (suc k) y e = let h = within_length xs k y e in omega arith
+
+beyond_length : {A : Type 0} (xs : List A) (k : ℕ) → slice_get xs k ≡ None → length xs ≤ k
+beyond_length [] k e = omega arith
+beyond_length (x ∷ xs) zero e = cc
+beyond_length (x ∷ xs) (suc k) e = let h = beyond_length xs k e in omega arith
+
+pub key_at : (keys : List Key) (key : Key) → has_key keys key ≡ true → slice_get keys (place_among keys key) ≡ Some key
 key_at [] key h = cc
 key_at (k ∷ ks) key h = ⊎_elim
     (λ (one : k ≡ key). rw (subst (λ (x : Key). is_key x key ≡ true) (sym one) (is_key-same key)) (ap Some one))
@@ -32,12 +44,12 @@ key_at (k ∷ ks) key h = ⊎_elim
     (subst (λ (n : ℕ). slice_get (k ∷ ks) n ≡ Some key) (sym (add-one (place_among ks key))) (key_at ks key rest)))
     (key_cases k key)
 
-has_at : (keys : List Key) (rank : ℕ) (key : Key) → slice_get keys rank ≡ Some key → has_key keys key ≡ true
+pub has_at : (keys : List Key) (rank : ℕ) (key : Key) → slice_get keys rank ≡ Some key → has_key keys key ≡ true
 has_at [] rank key e = cc
 has_at (k ∷ ks) zero key e = let one : k ≡ key = cc in rw (subst (λ (x : Key). is_key x key ≡ true) (sym one) (is_key-same key)) refl
 has_at (k ∷ ks) (suc rank) key e = let there = has_at ks rank key e in grind (arith, there)
 
-place_of_at : (keys : List Key) (rank : ℕ) (key : Key) → AreDistinct keys → slice_get keys rank ≡ Some key → place_among keys key ≡ rank
+pub place_of_at : (keys : List Key) (rank : ℕ) (key : Key) → AreDistinct keys → slice_get keys rank ≡ Some key → place_among keys key ≡ rank
 place_of_at [] rank key d e = cc
 place_of_at (k ∷ ks) zero key d e = let one : k ≡ key = cc in rw (subst (λ (x : Key). is_key x key ≡ true) (sym one) (is_key-same key)) refl
 place_of_at (k ∷ ks) (suc rank) key d e = ⊎_elim
@@ -51,67 +63,69 @@ place_of_at (k ∷ ks) (suc rank) key d e = ⊎_elim
 abbrev pub IsKeptOf : Params → List Line → List Kept → Type 0
 IsKeptOf p lines kept = map state_in kept ≡ map (state_of p lines) (known_keys lines)
 
--- the due at a key's rank is the key's
-due_at : (p : Params) (lines : List Line) (kept : List Kept) (rank : ℕ) (key : Key) → IsKeptOf p lines kept → slice_get (known_keys lines) rank ≡ Some key → slice_get (dues_of kept) rank ≡ Some (due_of p lines key)
-due_at p lines kept rank key f e = by_kept (slice_get kept rank) refl where
-  both : option_map state_in (slice_get kept rank) ≡ Some (state_of p lines key)
-  both = sym (slice_get-map state_in kept rank) ∙ ap (λ (xs : List State). slice_get xs rank) f ∙ slice_get-map (state_of p lines) (known_keys lines) rank ∙ ap (option_map (state_of p lines)) e
-
-  by_kept : (o : Option Kept) → slice_get kept rank ≡ o → slice_get (dues_of kept) rank ≡ Some (due_of p lines key)
-  by_kept None h = let bad : None ≡ Some (state_of p lines key) = ap (option_map state_in) (sym h) ∙ both in cc
-  by_kept (Some one) h =
-      let good : Some (state_in one) ≡ Some (state_of p lines key) = ap (option_map state_in) (sym h) ∙ both in
-      let same : state_in one ≡ state_of p lines key = cc in
-      slice_get-map (λ (k : Kept). k.entry.due) kept rank ∙ ap (option_map (λ (k : Kept). k.entry.due)) h ∙ ap (λ (s : State). Some s.entry.due) same
-
-no_due : (d : ℕ) → absent.entry.due ≡ Some d → ⊥
-no_due d e = cc
-
--- a due stands at its key's rank
-place_of_due : (p : Params) (lines : List Line) (kept : List Kept) (key : Key) (d : ℕ) → IsKeptOf p lines kept → due_of p lines key ≡ Some d → slice_get (dues_of kept) (place_among (known_keys lines) key) ≡ Some (Some d)
-place_of_due p lines kept key d f e = by_test (has_key (known_keys lines) key) refl where
-  by_test : (t : Bool) → has_key (known_keys lines) key ≡ t → slice_get (dues_of kept) (place_among (known_keys lines) key) ≡ Some (Some d)
-  by_test true h = due_at p lines kept (place_among (known_keys lines) key) key f (key_at (known_keys lines) key h) ∙ ap Some e
-  by_test false h = absurd (no_due d (ap (λ (s : State). s.entry.due) (sym (state_of-unknown p lines key h)) ∙ e))
-
 -- there are as many keys as is kept of them
 pub same_length : (p : Params) (lines : List Line) (kept : List Kept) → IsKeptOf p lines kept → length kept ≡ length (known_keys lines)
 same_length p lines kept f = sym (length-map kept state_in) ∙ ap length f ∙ length-map (known_keys lines) (state_of p lines)
 
--- a due's rank is that of a known key
-pub rank_within : (p : Params) (lines : List Line) (kept : List Kept) (rank at : ℕ) → IsKeptOf p lines kept → IsLeastDue (dues_of kept) rank at → rank < length (known_keys lines)
-rank_within p lines kept rank at f least =
-    let within = within_length (dues_of kept) rank (Some at) least.here in
-    let size = same_length p lines kept f in
-    let few = length-map kept (λ (k : Kept). k.entry.due) in
-    omega (arith, within, size, few)
+-- what is kept at a key's rank has the key's due
+pub kept_due : (p : Params) (lines : List Line) (kept : List Kept) (rank : ℕ) (one : Kept) (key : Key) → IsKeptOf p lines kept → slice_get kept rank ≡ Some one → slice_get (known_keys lines) rank ≡ Some key → one.entry.due ≡ due_of p lines key
+kept_due p lines kept rank one key f h e =
+    let both : option_map state_in (slice_get kept rank) ≡ Some (state_of p lines key) =
+    sym (slice_get-map state_in kept rank) ∙ ap (λ (xs : List State). slice_get xs rank) f ∙ slice_get-map (state_of p lines) (known_keys lines) rank ∙ ap (option_map (state_of p lines)) e in
+    let good : Some (state_in one) ≡ Some (state_of p lines key) = ap (option_map state_in) (sym h) ∙ both in
+    let same : state_in one ≡ state_of p lines key = cc in
+    ap (λ (s : State). s.entry.due) same
+
+no_due : (d : ℕ) → absent.entry.due ≡ Some d → ⊥
+no_due d e = cc
+
+none_some : (o : Option ℕ) (d : ℕ) → o ≡ None → o ≡ Some d → ⊥
+none_some o d none some = cc
+
+-- an armed node is a known key's
+pub armed_within : (p : Params) (lines : List Line) (t : Timers) (node d : ℕ) → AreArmed p lines t → timers.due_of t.dues node ≡ Some d → node < length (known_keys lines)
+armed_within p lines t node d a e = by_key (slice_get (known_keys lines) node) refl where
+  by_key : (o : Option Key) → slice_get (known_keys lines) node ≡ o → node < length (known_keys lines)
+  by_key None h = absurd (none_some (timers.due_of t.dues node) d (a.spare node (beyond_length (known_keys lines) node h)) e)
+  by_key (Some key) h = within_length (known_keys lines) node key h
+
+-- the key's due is armed at its rank
+armed_at : (p : Params) (lines : List Line) (t : Timers) (key : Key) (d : ℕ) → AreArmed p lines t → due_of p lines key ≡ Some d → timers.due_of t.dues (place_among (known_keys lines) key) ≡ Some d
+armed_at p lines t key d a e = by_test (has_key (known_keys lines) key) refl where
+  by_test : (b : Bool) → has_key (known_keys lines) key ≡ b → timers.due_of t.dues (place_among (known_keys lines) key) ≡ Some d
+  by_test true h = a.each (place_among (known_keys lines) key) key (key_at (known_keys lines) key h) ∙ e
+  by_test false h = absurd (no_due d (ap (λ (s : State). s.entry.due) (sym (state_of-unknown p lines key h)) ∙ e))
+
+-- no armed due lies before a moment, where no key's does
+pub none_before : (p : Params) (lines : List Line) (t : Timers) (at : ℕ) → AreArmed p lines t → NothingOverdue p lines at → (node d : ℕ) → timers.due_of t.dues node ≡ Some d → at ≤ d
+none_before p lines t at a none node d e = by_key (slice_get (known_keys lines) node) refl where
+  by_key : (o : Option Key) → slice_get (known_keys lines) node ≡ o → at ≤ d
+  by_key None h = absurd (none_some (timers.due_of t.dues node) d (a.spare node (beyond_length (known_keys lines) node h)) e)
+  by_key (Some key) h = dues_from-nothing_overdue p lines at none key d (sym (a.each node key h) ∙ e)
 
 -- ---- the next timer
 
--- where nothing is due, nothing is due up to any moment
-pub none_due : (p : Params) (lines : List Line) (kept : List Kept) (moment : ℕ) → IsKeptOf p lines kept → HasNoDue (dues_of kept) → NothingDue p lines moment
-none_due p lines kept moment f none = nothing_due-from p lines moment (λ key d e. absurd (none.each (place_among (known_keys lines) key) d (place_of_due p lines kept key d f e)))
-
-due_behind : (p : Params) (lines : List Line) (kept : List Kept) (rank at : ℕ) → IsKeptOf p lines kept → IsLeastDue (dues_of kept) rank at → DuesFrom p lines at
-due_behind p lines kept rank at f least key d e = least.least (place_among (known_keys lines) key) d (place_of_due p lines kept key d f e)
+-- where nothing is armed, nothing is due up to any moment
+pub none_due : (p : Params) (lines : List Line) (t : Timers) (moment : ℕ) → AreArmed p lines t → NoneArmed t.dues → NothingDue p lines moment
+none_due p lines t moment a none = nothing_due-from p lines moment (λ key d e. absurd (none_some (timers.due_of t.dues (place_among (known_keys lines) key)) d (none (place_among (known_keys lines) key)) (armed_at p lines t key d a e)))
 
 -- nothing is due before the least due
-pub none_before_least : (p : Params) (lines : List Line) (kept : List Kept) (rank at moment : ℕ) → moment < at → IsKeptOf p lines kept → IsLeastDue (dues_of kept) rank at → NothingDue p lines moment
-none_before_least p lines kept rank at moment lt f least = nothing_due-from p lines moment (λ key d e. let low = due_behind p lines kept rank at f least key d e in omega (arith, low, lt))
+pub none_before_least : (p : Params) (lines : List Line) (t : Timers) (node at moment : ℕ) → moment < at → AreArmed p lines t → IsLeast t.dues at node → NothingDue p lines moment
+none_before_least p lines t node at moment lt a least = nothing_due-from p lines moment (λ key d e. let low = least.least (place_among (known_keys lines) key) d (armed_at p lines t key d a e) in omega (arith, low, lt))
 
--- the first of the least dues is the next timer's
-pub least_is_next : (p : Params) (lines : List Line) (kept : List Kept) (rank at : ℕ) (key : Key) → IsKeptOf p lines kept → IsLeastDue (dues_of kept) rank at → slice_get (known_keys lines) rank ≡ Some key → IsNextDue p lines key at
-least_is_next p lines kept rank at key f least e = record {
-  due = let same : Some (due_of p lines key) ≡ Some (Some at) = sym (due_at p lines kept rank key f e) ∙ least.here in cc;
-  least = nothing_overdue-from p lines at (due_behind p lines kept rank at f least);
-  first = λ other d.
-      let mine = place_of_at (known_keys lines) rank key (known_keys-distinct lines) e in
-      let below = least.first (place_among (known_keys lines) other) (place_of_due p lines kept other at f d) in
+-- the least is the next timer's
+least_is_next : (p : Params) (lines : List Line) (t : Timers) (node at : ℕ) (key : Key) → AreArmed p lines t → IsLeast t.dues at node → slice_get (known_keys lines) node ≡ Some key → IsNextDue p lines key at
+least_is_next p lines t node at key a least e = record {
+  due = sym (a.each node key e) ∙ least.armed;
+  least = nothing_overdue-from p lines at (λ other d f. least.least (place_among (known_keys lines) other) d (armed_at p lines t other d a f));
+  first = λ other f.
+      let mine = place_of_at (known_keys lines) node key (known_keys-distinct lines) e in
+      let below = least.first (place_among (known_keys lines) other) (armed_at p lines t other at a f) in
       omega (arith, mine, below);
 }
 
 -- the same for the key that stands at the rank
-pub least_is_next_at : (p : Params) (lines : List Line) (kept : List Kept) (keys : List Key) (key : Key) (rank at : ℕ) → IsKeptOf p lines kept → keys ≡ known_keys lines → IsLeastDue (dues_of kept) rank at → IsNextDue p lines (get_or keys rank key) at
-least_is_next_at p lines kept keys key rank at f e least =
-    let within = rank_within p lines kept rank at f least in
-    least_is_next p lines kept rank at (get_or keys rank key) f least (ap (λ (ks : List Key). slice_get ks rank) (sym e) ∙ slice_get-get_or keys rank key (rw e within))
+pub least_is_next_at : (p : Params) (lines : List Line) (t : Timers) (keys : List Key) (key : Key) (node at : ℕ) → AreArmed p lines t → keys ≡ known_keys lines → IsLeast t.dues at node → IsNextDue p lines (get_or keys node key) at
+least_is_next_at p lines t keys key node at a e least =
+    let within = armed_within p lines t node at a least.armed in
+    least_is_next p lines t node at (get_or keys node key) a least (ap (λ (ks : List Key). slice_get ks node) (sym e) ∙ slice_get-get_or keys node key (rw e within))

@@ -13,10 +13,8 @@ use Rattle.nb_journal.specs.Lawful.{last_moment, IsNextDue, IsSweepMoment, sweep
 use Rattle.nb_journal.specs.Accounts.{timer_line}
 use Rattle.nb_bucket.specs.declared.fail.BucketFail.{BucketFail}
 use Rattle.nb_bucket.specs.declared.fail.BucketFail.TheVariants.{JournalFull, Memory}
-
 -- the most lines that a bucket may have
-abbrev pub most_lines : ℕ
-most_lines = 4_194_304
+pub use Rattle.nb_journal.specs.Accounts.{most_lines}
 
 -- a bucket is seen as its journal, with its clock, its parameters and the most lines that it may have
 pub record Journal : Type 0 where

@@ -17,11 +17,10 @@ use journal_fold::Fold;
 use nb_base::{Host, Key, Line, Moment, Op, OpId, Params, Reply};
 use nb_census::Census;
 use nud_machine::{Acts, Entry};
+use slot_links::Links;
 use std::alloc::{AllocError, Global};
 use std::marker::Model;
-
-/// The most lines that a bucket may have.
-pub const MOST_LINES: u32 = 4_194_304;
+use timer_wheel::Wheel;
 
 /// One bucket of a neighbour table: its journal, and the entries that the journal leaves. Contracts see the journal, with the
 /// clock up to which the bucket has gone on, the parameters, and the most lines that the journal may have.
@@ -31,11 +30,16 @@ pub struct Bucket {
     limit: u32,
     clock: Moment,
     next_sweep: Moment,
-    order: Vec<Key>,
-    /// The keys that the last forced pass took; it has room for as many as the order has.
+    /// One list: the ranks of the present keys in the order of making.
+    order: Links,
+    /// The ranks that the last sweep or flush went over.
+    ranks: Vec<u32>,
+    /// The keys that the last forced pass took; it has room for as many as the order has nodes.
     victims: Vec<Key>,
     last_pass: Moment,
     acts: Acts,
+    /// A node for each known key, its rank, with the due of the key's entry.
+    timers: Wheel,
 }
 
 impl Model for Bucket {
@@ -68,10 +72,12 @@ impl Bucket {
             limit,
             clock: Moment(0),
             next_sweep: Moment(u64::from(params.gc_interval)),
-            order: Vec::new(alloc),
+            order: Links::new(alloc, 1)?,
+            ranks: Vec::new(alloc),
             victims: Vec::new(alloc),
             last_pass: Moment(0),
             acts: Acts::new(alloc)?,
+            timers: Wheel::new(alloc)?,
         })
     }
 

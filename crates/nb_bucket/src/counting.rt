@@ -3,6 +3,7 @@ ghost use Rattle.std.specs.Prelude.{◌≡◌, ◌+◌, ◌<◌, ◌≤◌, ◌�
 ghost use Rattle.nb_journal.specs.Fold as rules;
 ghost use Rattle.nb_journal.specs.Keys as keys_of;
 ghost use Rattle.nb_journal.specs.Steps.{IsStep};
+ghost use Rattle.journal_fold.specs.Present.{HoldsPresent};
 ghost use Rattle.nb_bucket.specs.Bucket.{most_lines};
 ghost use Rattle.nb_bucket.specs.Counting.{shown, IsCensusOf, CountsLine, LooksOnce, LooksFor};
 
@@ -61,6 +62,31 @@ pub fn append<C: Census>(
 {
     let was = fold.present() as u32;
     let reply = fold.append(line, acts);
+    count_present(census, was, fold.present() as u32);
+    reply
+}
+
+/// Appends a line that names no key, over the ranks of the present ones alone, and the census counts it.
+pub fn append_over<C: Census>(
+    fold: &mut Fold,
+    census: &mut C,
+    line: &Line,
+    ranks: &[u32],
+    acts: &mut Acts,
+) -> Option<Reply>
+    requires step { IsStep fold.old.params fold.old.lines line.now }
+    requires few { length fold.old.lines < most_lines }
+    requires names { keys_of.key_of line.now.op ≡ None }
+    requires room { 0 < fold.old.room }
+    requires ranks { HoldsPresent fold.old.params fold.old.lines ranks.now }
+    requires census { IsCensusOf fold.old.params fold.old.lines (shown C.name C.share C.changes C.looks C.others census.old) }
+    ensures lines { fold.new.lines ≡ fold.old.lines ++ line.now ∷ [] }
+    ensures params { fold.new.params ≡ fold.old.params }
+    ensures reply { result ≡ rules.reply_of fold.old.params fold.old.lines line.now }
+    ensures counted { CountsLine (rules.present_count fold.old.params fold.old.lines) (rules.present_count fold.new.params fold.new.lines) (shown C.name C.share C.changes C.looks C.others census.old) (shown C.name C.share C.changes C.looks C.others census.new) }
+{
+    let was = fold.present() as u32;
+    let reply = fold.append_over(line, ranks, acts);
     count_present(census, was, fold.present() as u32);
     reply
 }

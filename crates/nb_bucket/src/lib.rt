@@ -8,8 +8,9 @@ mod fail;
 mod order;
 mod passing;
 mod room;
-mod soonest;
+mod timers;
 mod writing;
 
-pub use bucket::{Bucket, MOST_LINES};
+pub use bucket::Bucket;
 pub use fail::BucketFail;
+pub use nb_journal::MOST_LINES;

@@ -1,5 +1,5 @@
 //! Making an entry, and the forced pass before it.
-ghost use Rattle.std.specs.Prelude.{◌≡◌, ◌≤◌, ◌&&◌, true, is_some, IsTrue, if◌then◌else◌, length, vec_capacity};
+ghost use Rattle.std.specs.Prelude.{◌≡◌, ◌-◌, ◌<◌, ◌≤◌, ◌&&◌, ◌∷◌, ◌++◌, [], true, is_some, IsTrue, if◌then◌else◌, length, vec_len, vec_capacity};
 ghost use Rattle.nud_machine.specs.Asked.{greatest};
 ghost use Rattle.nb_journal.specs.Fold as rules;
 ghost use Rattle.nb_journal.specs.Keys.{may_be_asked};
@@ -7,14 +7,16 @@ ghost use Rattle.nb_journal.specs.Keys as keys_of;
 ghost use Rattle.nb_journal.specs.Lawful as lawful;
 ghost use Rattle.nb_bucket.specs.Counting.{shown, LooksFor};
 ghost use Rattle.nb_bucket.specs.Entering.{victims_of};
+ghost use Rattle.nb_bucket.specs.Making.{HoldsOrder, key_at};
 ghost use Rattle.nb_bucket.specs.Planned.{IsPlanned};
 
 use crate::counting::look_for;
-use crate::order::{is_present, push_reserved};
+use crate::order::{is_present, kept_at, push_reserved};
 use journal_fold::Fold;
 use nb_base::{Key, Line, Moment};
 use nb_census::Census;
-use nb_journal::{Effect, PASS_MILLIS, is_collectable, is_own, key_of};
+use nb_journal::{Effect, is_collectable, is_own, is_pass_due, key_of};
+use slot_links::Links;
 
 /// The key for which the line would make an entry.
 fn making(fold: &Fold, line: &Line) -> Option<Key>
@@ -30,22 +32,13 @@ fn making(fold: &Fold, line: &Line) -> Option<Key>
     }
 }
 
-/// Whether a forced pass is due before an entry is made at the moment, by a line that saw so many entries.
-fn is_pass_due(fold: &Fold, seen: u32, last: Moment, at: Moment) -> bool
-    requires { last ≤ greatest }
-    ensures { result ≡ lawful.is_pass_due fold.now.params seen last at }
-{
-    let params = fold.params();
-    params.gc_thresh3 <= seen || (params.gc_thresh2 <= seen && last.after(PASS_MILLIS) < at)
-}
-
 /// Whether a forced pass is due before the line, which looks exactly where it is to make an entry.
 fn has_pass(fold: &Fold, line: &Line, last: Moment) -> bool
     requires { last ≤ greatest }
     ensures { result ≡ (is_some line.now.seen && lawful.is_pass_due fold.now.params (rules.seen_of line.now) last line.now.at) }
 {
     match line.seen {
-        Some(seen) => is_pass_due(fold, seen, last, line.at),
+        Some(seen) => is_pass_due(fold.params(), seen, last, line.at),
         None => false,
     }
 }
@@ -57,41 +50,47 @@ pub fn pass_after(pass: bool, at: Moment, last: Moment) -> Moment
     if pass { at } else { last }
 }
 
-/// Whether a forced pass may take the key's entry.
-fn may_take(fold: &Fold, key: &Key, at: Moment) -> bool
-    ensures { result ≡ lawful.is_collectable at (rules.state_of fold.now.params fold.now.lines key.now) }
+/// Puts the key of the rank behind the others, where a forced pass may take its entry. Answers how many of so many it leaves.
+fn take_at(victims: &mut Vec<Key>, fold: &Fold, rank: u32, at: Moment, left: u32) -> u32
+    requires known { rank < length (rules.known_keys fold.now.lines) }
+    requires room { vec_len victims.old < vec_capacity victims.old }
+    requires some { 0 < left }
+    ensures victims { victims.new.items ≡ (if lawful.is_collectable at (rules.state_of fold.now.params fold.now.lines (key_at fold.now.lines rank)) then victims.old.items ++ key_at fold.now.lines rank ∷ [] else victims.old.items) }
+    ensures left { result ≡ (if lawful.is_collectable at (rules.state_of fold.now.params fold.now.lines (key_at fold.now.lines rank)) then left - 1 else left) }
+    ensures room { vec_capacity victims.old ≤ vec_capacity victims.new }
 {
-    match fold.find(key) {
-        None => false,
-        Some(kept) => is_collectable(at, kept),
+    if !is_collectable(at, kept_at(fold, rank)) {
+        return left;
     }
+    push_reserved(victims, fold.keys()[rank as usize]);
+    left - 1
 }
 
-/// Finds those of the keys that a forced pass takes, in their order, until fewer than the threshold are left of those that were
+/// Finds the keys that a forced pass takes, in the order of making, until fewer than the threshold are left of those that were
 /// seen. There has to be room for all keys.
-fn find_victims(victims: &mut Vec<Key>, fold: &Fold, order: &[Key], seen: u32, at: Moment)
-    requires room { length order.now ≤ vec_capacity victims.old }
-    ensures found { victims.new.items ≡ victims_of fold.now.params fold.now.lines seen at order.now }
+fn find_victims(victims: &mut Vec<Key>, fold: &Fold, order: &Links, seen: u32, at: Moment)
+    requires room { order.now.nodes ≤ vec_capacity victims.old }
+    requires order { HoldsOrder fold.now.params fold.now.lines order.now }
+    ensures found { victims.new.items ≡ victims_of fold.now.params fold.now.lines seen at (lawful.making_order fold.now.params fold.now.lines) }
     ensures room { vec_capacity victims.old ≤ vec_capacity victims.new }
 {
     let threshold = fold.params().gc_thresh2;
     let mut left = seen;
     victims.clear();
-    for key in order {
+    let mut next = order.first(0);
+    while let Some(rank) = next {
         if left < threshold {
             return;
         }
-        if may_take(fold, key, at) {
-            push_reserved(victims, *key);
-            left -= 1;
-        }
+        left = take_at(victims, fold, rank, at, left);
+        next = order.next(rank);
     }
 }
 
 /// Finds the keys whose entries the forced pass before the line takes: none where it has no pass.
-fn find_asked(victims: &mut Vec<Key>, fold: &Fold, order: &[Key], pass: bool, line: &Line)
-    requires room { length order.now ≤ vec_capacity victims.old }
-    requires order { order.now ≡ lawful.making_order fold.now.params fold.now.lines }
+fn find_asked(victims: &mut Vec<Key>, fold: &Fold, order: &Links, pass: bool, line: &Line)
+    requires room { order.now.nodes ≤ vec_capacity victims.old }
+    requires order { HoldsOrder fold.now.params fold.now.lines order.now }
     requires pass { pass ≡ lawful.has_pass fold.now.params fold.now.lines line.now }
     ensures found { victims.new.items ≡ lawful.asked_of_pass fold.now.params fold.now.lines line.now }
     ensures room { vec_capacity victims.old ≤ vec_capacity victims.new }
@@ -119,15 +118,15 @@ pub struct Planned {
 pub fn plan<C: Census>(
     victims: &mut Vec<Key>,
     fold: &Fold,
-    order: &[Key],
+    order: &Links,
     census: &mut C,
     last: Moment,
     bare: Line,
 ) -> Planned
     requires own { keys_of.is_own bare.op ≡ true }
     requires asked { IsTrue (may_be_asked bare.op) }
-    requires room { length order.now ≤ vec_capacity victims.old }
-    requires order { order.now ≡ lawful.making_order fold.now.params fold.now.lines }
+    requires room { order.now.nodes ≤ vec_capacity victims.old }
+    requires order { HoldsOrder fold.now.params fold.now.lines order.now }
     requires last { last ≡ lawful.last_pass fold.now.params fold.now.lines }
     requires early { last ≤ greatest }
     ensures planned { IsPlanned fold.now.params fold.now.lines bare result victims.new.items }

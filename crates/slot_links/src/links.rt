@@ -101,11 +101,12 @@ impl Links {
     }
 
     /// The node at the front of a list, which is the list that has it: `None` exactly where the list is
-    /// empty. Takes no memory.
+    /// empty. A walk from here meets each node once. Takes no memory.
     pub fn first(&self, list: u32) -> Option<u32>
         requires { list < length self.now.lists }
         ensures front { result ≡ slice_get (list_at self.now.lists list) 0 }
         ensures stands { IfSome result (StandsIn self.now (Some list)) }
+        ensures once { StandOnce self.now }
     {
         node_of(self.lists, self.places[list as usize].next)
     }

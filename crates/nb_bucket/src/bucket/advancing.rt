@@ -9,10 +9,10 @@ ghost use Rattle.nb_bucket.specs.Going.{GoesOneOn, GoesAlong};
 
 use super::Bucket;
 use crate::BucketFail;
-use crate::counting::{append, look};
-use crate::order::keep_present;
+use crate::counting::look;
 use crate::room::check_room;
-use crate::soonest::next_timer;
+use crate::timers::{append, next_timer};
+use crate::writing::write_each;
 use nb_base::{Line, Moment, Op};
 use nb_census::Census;
 use std::alloc::Global;
@@ -39,12 +39,19 @@ impl Bucket {
         ensures refused { IfErr result (HasCause self.old (ComesNext self.old.params self.old.lines until)) }
         ensures counted { CountsAlong self.old.params self.old.lines self.new.lines (shown C.name C.share C.changes C.looks C.others census.old) (shown C.name C.share C.changes C.looks C.others census.new) }
     {
-        let Some(line) = next_timer(&self.fold, until) else {
+        let Some(line) = next_timer(&self.fold, &self.timers, until) else {
             return Ok(false);
         };
         check_room(self.fold.lines().len() as u32, 1, self.limit)?;
         self.fold.reserve(alloc, 1)?;
-        append(&mut self.fold, census, &line, &mut self.acts);
+        self.timers.advance(line.at);
+        append(
+            &mut self.fold,
+            &mut self.timers,
+            census,
+            &line,
+            &mut self.acts,
+        );
         self.clock = line.at;
         Ok(true)
     }
@@ -99,8 +106,16 @@ impl Bucket {
             seen: Some(look(census)),
             full: None,
         };
-        append(&mut self.fold, census, &line, &mut self.acts);
-        keep_present(&mut self.order, &self.fold);
+        self.timers.advance(next);
+        write_each(
+            &mut self.fold,
+            &mut self.order,
+            &mut self.ranks,
+            &mut self.timers,
+            census,
+            &line,
+            &mut self.acts,
+        );
         self.clock = next;
         self.next_sweep = next.after(self.fold.params().gc_interval);
         Ok(self.next_sweep)
@@ -162,6 +177,7 @@ impl Bucket {
         requires lawful { IsLawful self.old.params self.old.lines to }
         ensures { self.new ≡ record self.old { clock = to } }
     {
+        self.timers.advance(to);
         self.clock = to;
     }
 }

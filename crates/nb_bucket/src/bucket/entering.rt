@@ -65,11 +65,17 @@ impl Bucket {
         let collects = self.victims.len() as u32;
         check_room(has, collects + 1, self.limit)?;
         self.fold.reserve(alloc, collects as usize + 1)?;
-        self.order.reserve(1)?;
-        self.victims.reserve(self.order.len() + 1)?;
+        let nodes = self.fold.keys().len() + 1;
+        self.victims.reserve(nodes)?;
+        self.ranks.reserve(nodes)?;
+        self.order.reserve(nodes as u32)?;
+        self.timers.reserve(nodes as u32)?;
+        self.timers.advance(at);
         let reply = write(
             &mut self.fold,
             &mut self.order,
+            &mut self.ranks,
+            &mut self.timers,
             census,
             line,
             planned.made,

@@ -1,10 +1,10 @@
-use Rattle.std.proofs.Common.{◌≡◌, ◌++◌, List, [], ◌∷◌, length, sym, ◌∙◌, ap, subst, append_assoc, append-nil}
+use Rattle.std.proofs.Common.{◌≡◌, ◌++◌, List, [], ◌∷◌, length, sym, ◌∙◌, ap, subst, append_assoc, append-nil, arith}
 use Rattle.std.specs.Prelude.{map}
 use Rattle.nb_base.specs.declared.key.Key.{Key}
-use Rattle.nb_journal.specs.Lawful.{making_order, collect_line, collects, full_of}
+use Rattle.nb_journal.specs.Lawful.{base_of, collect_line, collects, full_of}
 use Rattle.nb_bucket.specs.Bucket.{full_line}
 use Rattle.nb_bucket.specs.Counting.{shown, CountsCollects}
-use Rattle.nb_bucket.proofs.Collects.{order-collects}
+use Rattle.nb_bucket.proofs.Collects.{none-made}
 use Rattle.nb_bucket.proofs.Entered.{making-full, base_of-behind, full_of-known}
 use Rattle.nb_bucket.proofs.writing.write.Goals as goal
 
@@ -15,6 +15,14 @@ write_own-requires-clause-made g c =
     let lines : c.write_collects.new.fold.lines ≡ fold.lines ++ collects fold.params fold.lines line =
     c.write_collects.ensures.lines ∙ ap (λ (keys : List Key). fold.lines ++ map (collect_line line.at) keys) c.requires.ready.victims_are in
     rw (c.write_collects.ensures.params, lines, base_of-behind fold.params fold.lines line c.requires.ready.base) (c.requires.ready.made_is ∙ sym (making-full fold.params fold.lines line c.full_of-full.result))
+
+pub write_own-requires-clause-bare : goal.write_own-requires-clause-bare
+write_own-requires-clause-bare g c =
+    let fold = c.args.fold.now in
+    let line = c.args.line in
+    λ none.
+    let asked = c.requires.ready.victims_are ∙ none-made fold.params fold.lines line (sym c.requires.ready.made_is ∙ none) in
+    rw (c.write_collects.ensures.lines, asked) (ap base_of (append-nil fold.lines) ∙ c.requires.ready.base ∙ sym (append-nil fold.lines))
 
 pub returns-clause-lines : goal.returns-clause-lines
 returns-clause-lines g c =
@@ -50,12 +58,11 @@ returns-clause-counted g c =
       line = rw (c.write_own.ensures.params, c.write_collects.ensures.params, lines) at c.write_own.ensures.counted;
     }
 
-pub drop_victims-requires-clause-none : goal.drop_victims-requires-clause-none
-drop_victims-requires-clause-none g c =
-    let fold = c.args.fold.now in
-    λ e. rw (c.write_collects.ensures.params, c.write_collects.ensures.lines, e) (c.requires.ready.order_is ∙ ap (making_order fold.params) (sym (append-nil fold.lines)))
+pub write_own-requires-clause-params : goal.write_own-requires-clause-params
+write_own-requires-clause-params g c = rw c.write_collects.ensures.params c.requires.params
 
-pub drop_victims-requires-clause-some : goal.drop_victims-requires-clause-some
-drop_victims-requires-clause-some g c =
-    let fold = c.args.fold.now in
-    rw (c.write_collects.ensures.params, c.write_collects.ensures.lines, c.requires.ready.order_is) (sym (order-collects fold.params fold.lines c.args.line.at c.args.victims.now))
+pub write_own-requires-clause-passed : goal.write_own-requires-clause-passed
+write_own-requires-clause-passed g c = omega (arith, c.write_collects.ensures.passed, c.requires.passed)
+
+pub write_own-requires-clause-timer : goal.write_own-requires-clause-timer
+write_own-requires-clause-timer g c = omega (arith, c.write_collects.ensures.known, c.write_collects.ensures.timers, c.requires.timer)

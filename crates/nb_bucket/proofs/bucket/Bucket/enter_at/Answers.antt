@@ -1,8 +1,13 @@
-use Rattle.std.proofs.Common.{◌≡◌, ◌≤◌, None, if◌then◌else◌, Bool, List, length, refl, ap, ◌∙◌, sym, subst, arith, rules}
+use Rattle.std.proofs.Common.{◌≡◌, ◌+◌, ◌≤◌, None, if◌then◌else◌, Bool, List, length, refl, ap, ◌∙◌, sym, subst, arith, rules}
 use Rattle.std.proofs.lemmas.Result.{err_from_is_err_and}
 use Rattle.nb_base.specs.declared.key.Key.{Key}
 use Rattle.nb_base.specs.declared.line.Line.{Line}
+use Rattle.nb_journal.specs.Fold.{known_keys}
 use Rattle.nb_journal.specs.Lawful.{asked_of_pass, IsLawful}
+use Rattle.nb_journal.proofs.Folds.{known_keys-within}
+use Rattle.timer_wheel.specs.Map.{Timers}
+use Rattle.nb_bucket.proofs.NextTimer.{none_before}
+use Rattle.nb_bucket.proofs.Armed.{armed-more, armed-passed, overdue-of_due, enough-nodes}
 use Rattle.nb_bucket.specs.Bucket.{Journal, operation_line}
 use Rattle.nb_bucket.specs.Keeps.{journal_of}
 use Rattle.nb_bucket.specs.Counting.{shown, IsCensusOf, CountsRefused}
@@ -34,17 +39,49 @@ invariant_of-self-2 g c =
     let bare = operation_line c.args.at c.args.id c.args.op None in
     let line = operation_line c.args.at c.args.id c.args.op c.plan-planned.result.seen in
     let saw = planned-saw b.fold.params b.fold.lines bare c.plan-planned.result c.plan-planned.new.victims.items (shown g.C.Census.name g.C.Census.share g.C.Census.changes g.C.Census.looks g.C.Census.others c.args.census.now) (shown g.C.Census.name g.C.Census.share g.C.Census.changes g.C.Census.looks g.C.Census.others c.plan-planned.new.census) c.requires.own c.plan-planned.ensures.planned is c.plan-planned.ensures.looked in
-    let order = rw (c.write-reply.ensures.lines, c.write-reply.ensures.params, c.in_ok-reserve.ensures.same, c.in_ok-reserve.ensures.params) at c.write-reply.ensures.order in
     record {
       follows = rw (c.write-reply.ensures.lines, c.write-reply.ensures.params, c.in_ok-reserve.ensures.same, c.in_ok-reserve.ensures.params)
-          (follows-brought b.fold.params b.limit b.fold.lines b.clock b.next_sweep b.order.items b.last_pass line c.write-reply.new.order.items c.pass_after-self-inside.result c.self.invariant.follows
+          (follows-brought b.fold.params b.limit b.fold.lines b.clock b.next_sweep b.last_pass line c.pass_after-self-inside.result c.self.invariant.follows
           le c.requires.now lawful c.requires.own refl saw
           (omega (arith, c.in_ok-check_room.ensures.room, ap (λ (xs : List _). length xs) c.lines.ensures, ap (λ (keys : List Key). length keys) c.plan-planned.ensures.planned.victims_are))
-          order
           (c.pass_after-self-inside.ensures ∙ ap (λ (t : Bool). if t then c.args.at else b.last_pass) c.plan-planned.ensures.planned.pass_is)
           (rw c.pass_after-self-inside.ensures (later_of c.plan-planned.result.pass c.args.at b.last_pass c.requires.now c.self.invariant.follows.early)));
+      order = c.write-reply.ensures.order;
       victims = search rules;
+      ranks = search rules;
+      armed = c.write-reply.ensures.armed;
+      passed = let now = c.write-reply.ensures.passed ∙ ap (λ (t : Timers). t.now) c.advance.ensures in omega (arith, now);
     }
+
+pub advance-requires-clause-later : goal.advance-requires-clause-later
+advance-requires-clause-later g c =
+    let le = subst (λ (j : Journal). j.clock ≤ c.args.at) (sym c.self.view_is) c.requires.clock in
+    let now = ap (λ (t : Timers). t.now) c.in_ok-reserve-5.ensures.ok in
+    omega (arith, now, c.self.invariant.passed, le)
+
+pub advance-requires-clause-none : goal.advance-requires-clause-none
+advance-requires-clause-none g c =
+    let b = c.self.inside in
+    let lawful = subst (λ (j : Journal). IsLawful j.params j.lines c.args.at) (sym c.self.view_is) c.requires.lawful in
+    rw c.in_ok-reserve-5.ensures.ok
+    (none_before b.fold.params b.fold.lines _ c.args.at (armed-more b.fold.params b.fold.lines b.timers _ c.self.invariant.armed) (overdue-of_due b.fold.params b.fold.lines c.args.at lawful.none_left))
+
+pub write-reply-requires-clause-armed : goal.write-reply-requires-clause-armed
+write-reply-requires-clause-armed g c =
+    let b = c.self.inside in
+    let lawful = subst (λ (j : Journal). IsLawful j.params j.lines c.args.at) (sym c.self.view_is) c.requires.lawful in
+    rw (c.advance.ensures, c.in_ok-reserve-5.ensures.ok, c.in_ok-reserve.ensures.same, c.in_ok-reserve.ensures.params)
+    (armed-passed b.fold.params b.fold.lines _ c.args.at (overdue-of_due b.fold.params b.fold.lines c.args.at lawful.none_left) (armed-more b.fold.params b.fold.lines b.timers _ c.self.invariant.armed))
+
+pub write-reply-requires-clause-passed : goal.write-reply-requires-clause-passed
+write-reply-requires-clause-passed g c = let now = ap (λ (t : Timers). t.now) c.advance.ensures in omega (arith, now)
+
+pub write-reply-requires-clause-timer : goal.write-reply-requires-clause-timer
+write-reply-requires-clause-timer g c =
+    let b = c.self.inside in
+    let known = ap (λ (keys : List Key). length keys + 1) (c.keys.ensures ∙ ap known_keys c.in_ok-reserve.ensures.same) in
+    rw (c.advance.ensures, c.in_ok-reserve-5.ensures.ok, c.in_ok-reserve.ensures.same)
+    (enough-nodes b.timers.dues (length (known_keys b.fold.lines)) _ known)
 
 pub returns-clause-entered : goal.returns-clause-entered
 returns-clause-entered g c =
@@ -89,6 +126,20 @@ returns-in_err-reserve-3-clause-refused_counted g c =
     (subst (λ (xs : List Line). CountsRefused old.params old.lines xs (shown g.C.Census.name g.C.Census.share g.C.Census.changes g.C.Census.looks g.C.Census.others c.args.census.now) (shown g.C.Census.name g.C.Census.share g.C.Census.changes g.C.Census.looks g.C.Census.others c.plan-planned.new.census)) (sym (c.in_ok-reserve.ensures.same ∙ ap (λ (j : Journal). j.lines) c.self.view_is))
     (refused-looked old.params old.lines (shown g.C.Census.name g.C.Census.share g.C.Census.changes g.C.Census.looks g.C.Census.others c.args.census.now) (shown g.C.Census.name g.C.Census.share g.C.Census.changes g.C.Census.looks g.C.Census.others c.plan-planned.new.census) c.plan-planned.result.seen c.requires.census c.plan-planned.ensures.looked))
 
+pub returns-in_err-reserve-4-clause-refused_counted : goal.returns-in_err-reserve-4-clause-refused_counted
+returns-in_err-reserve-4-clause-refused_counted g c =
+    let old = c.args.self.now in
+    on_refusal c.from_residual-in_err-reserve-4.result (CountsRefused old.params old.lines c.reserve.new.self.lines (shown g.C.Census.name g.C.Census.share g.C.Census.changes g.C.Census.looks g.C.Census.others c.args.census.now) (shown g.C.Census.name g.C.Census.share g.C.Census.changes g.C.Census.looks g.C.Census.others c.plan-planned.new.census))
+    (subst (λ (xs : List Line). CountsRefused old.params old.lines xs (shown g.C.Census.name g.C.Census.share g.C.Census.changes g.C.Census.looks g.C.Census.others c.args.census.now) (shown g.C.Census.name g.C.Census.share g.C.Census.changes g.C.Census.looks g.C.Census.others c.plan-planned.new.census)) (sym (c.in_ok-reserve.ensures.same ∙ ap (λ (j : Journal). j.lines) c.self.view_is))
+    (refused-looked old.params old.lines (shown g.C.Census.name g.C.Census.share g.C.Census.changes g.C.Census.looks g.C.Census.others c.args.census.now) (shown g.C.Census.name g.C.Census.share g.C.Census.changes g.C.Census.looks g.C.Census.others c.plan-planned.new.census) c.plan-planned.result.seen c.requires.census c.plan-planned.ensures.looked))
+
+pub returns-in_err-reserve-5-clause-refused_counted : goal.returns-in_err-reserve-5-clause-refused_counted
+returns-in_err-reserve-5-clause-refused_counted g c =
+    let old = c.args.self.now in
+    on_refusal c.from_residual-in_err-reserve-5.result (CountsRefused old.params old.lines c.reserve.new.self.lines (shown g.C.Census.name g.C.Census.share g.C.Census.changes g.C.Census.looks g.C.Census.others c.args.census.now) (shown g.C.Census.name g.C.Census.share g.C.Census.changes g.C.Census.looks g.C.Census.others c.plan-planned.new.census))
+    (subst (λ (xs : List Line). CountsRefused old.params old.lines xs (shown g.C.Census.name g.C.Census.share g.C.Census.changes g.C.Census.looks g.C.Census.others c.args.census.now) (shown g.C.Census.name g.C.Census.share g.C.Census.changes g.C.Census.looks g.C.Census.others c.plan-planned.new.census)) (sym (c.in_ok-reserve.ensures.same ∙ ap (λ (j : Journal). j.lines) c.self.view_is))
+    (refused-looked old.params old.lines (shown g.C.Census.name g.C.Census.share g.C.Census.changes g.C.Census.looks g.C.Census.others c.args.census.now) (shown g.C.Census.name g.C.Census.share g.C.Census.changes g.C.Census.looks g.C.Census.others c.plan-planned.new.census) c.plan-planned.result.seen c.requires.census c.plan-planned.ensures.looked))
+
 pub returns-clause-counted : goal.returns-clause-counted
 returns-clause-counted g c =
     let b = c.self.inside in
@@ -111,3 +162,17 @@ overflow_add-collects g c =
     let b = c.self.inside in
     let few = asked-few b.fold.params b.fold.lines (operation_line c.args.at c.args.id c.args.op c.plan-planned.result.seen) in
     omega (arith, few, ap (λ (keys : List Key). length keys) c.plan-planned.ensures.planned.victims_are, c.self.invariant.follows.few, c.self.invariant.follows.most)
+
+pub overflow_cast-nodes : goal.overflow_cast-nodes
+overflow_cast-nodes g c =
+    let b = c.self.inside in
+    let size = ap (λ (keys : List Key). length keys) c.keys.ensures ∙ ap (λ (xs : List Line). length (known_keys xs)) c.in_ok-reserve.ensures.same in
+    let within = known_keys-within b.fold.lines in
+    omega (arith, size, within, c.self.invariant.follows.few, c.self.invariant.follows.most)
+
+pub overflow_cast-nodes-2 : goal.overflow_cast-nodes-2
+overflow_cast-nodes-2 g c =
+    let b = c.self.inside in
+    let size = ap (λ (keys : List Key). length keys) c.keys.ensures ∙ ap (λ (xs : List Line). length (known_keys xs)) c.in_ok-reserve.ensures.same in
+    let within = known_keys-within b.fold.lines in
+    omega (arith, size, within, c.self.invariant.follows.few, c.self.invariant.follows.most)

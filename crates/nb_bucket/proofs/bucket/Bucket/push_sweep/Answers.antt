@@ -7,7 +7,10 @@ use Rattle.nb_bucket.specs.Bucket.{Journal, Stands}
 use Rattle.nb_base.specs.declared.line.Line.{Line}
 use Rattle.nb_bucket.specs.Counting.{shown, IsCensusOf, CountsAlong}
 use Rattle.nb_bucket.specs.Keeps.{IsNextSweep, FollowsJournal}
-use Rattle.nb_bucket.proofs.NextSweep.{next-one, next-sweep}
+use Rattle.timer_wheel.specs.Map.{Timers}
+use Rattle.nb_bucket.proofs.NextSweep.{next-one, next-sweep, clock-ahead}
+use Rattle.nb_bucket.proofs.NextTimer.{none_before}
+use Rattle.nb_bucket.proofs.Armed.{armed-passed, overdue-of_due}
 use Rattle.nb_bucket.proofs.CountsAlong.{counts-same, along-line}
 use Rattle.nb_bucket.proofs.Keeping.{stands-bare, follows-sweep, full-sweep}
 use Rattle.nb_bucket.proofs.bucket.Bucket.push_sweep.Goals as goal
@@ -28,13 +31,39 @@ invariant_of-self-2 g c =
     let one = next-one b.fold.params b.fold.lines b.clock b.next_sweep c.args.next c.self.invariant.follows.next n in
     let share = ap (λ (j : Journal). present_count j.params j.lines) c.self.view_is in
     record {
-      follows = rw (c.after-self-inside.ensures, c.params.ensures.params, c.keep_present.ensures.present, c.append.ensures.lines, c.append.ensures.params, c.in_ok-reserve.ensures.same, c.in_ok-reserve.ensures.params)
-          (follows-sweep b.fold.params b.limit b.fold.lines b.clock c.args.next b.order.items b.last_pass c.look.result
-          (subst (λ (m : ℕ). FollowsJournal b.fold.params b.limit b.fold.lines b.clock m b.order.items b.last_pass) one c.self.invariant.follows) none
+      follows = rw (c.after-self-inside.ensures, c.params.ensures.params, c.write_each.ensures.lines, c.write_each.ensures.params, c.in_ok-reserve.ensures.same, c.in_ok-reserve.ensures.params)
+          (follows-sweep b.fold.params b.limit b.fold.lines b.clock c.args.next b.last_pass c.look.result
+          (subst (λ (m : ℕ). FollowsJournal b.fold.params b.limit b.fold.lines b.clock m b.last_pass) one c.self.invariant.follows) none
           (omega (arith, c.look.ensures.least, c.requires.census.share, share)) c.requires.now
           (omega (arith, c.in_ok-check_room.ensures.room, ap (λ (xs : List _). length xs) c.lines.ensures)));
+      order = c.write_each.ensures.order;
       victims = search rules;
+      ranks = search rules;
+      armed = c.write_each.ensures.armed;
+      passed = let now = c.write_each.ensures.passed ∙ ap (λ (t : Timers). t.now) c.advance.ensures in omega (arith, now);
     }
+
+pub advance-requires-clause-later : goal.advance-requires-clause-later
+advance-requires-clause-later g c =
+    let b = c.self.inside in
+    let n = subst (λ (j : Journal). IsNextSweep j.params j.lines j.clock c.args.next) (sym c.self.view_is) c.requires.next in
+    let ahead = clock-ahead b.fold.params b.fold.lines b.clock c.args.next c.self.invariant.follows.stands n in
+    omega (arith, ahead, c.self.invariant.passed)
+
+pub advance-requires-clause-none : goal.advance-requires-clause-none
+advance-requires-clause-none g c =
+    let b = c.self.inside in
+    let none = subst (λ (j : Journal). NothingDue j.params j.lines c.args.next) (sym c.self.view_is) c.requires.none in
+    none_before b.fold.params b.fold.lines b.timers c.args.next c.self.invariant.armed (overdue-of_due b.fold.params b.fold.lines c.args.next none)
+
+pub write_each-requires-clause-armed : goal.write_each-requires-clause-armed
+write_each-requires-clause-armed g c =
+    let b = c.self.inside in
+    let none = subst (λ (j : Journal). NothingDue j.params j.lines c.args.next) (sym c.self.view_is) c.requires.none in
+    rw (c.advance.ensures, c.in_ok-reserve.ensures.same, c.in_ok-reserve.ensures.params) (armed-passed b.fold.params b.fold.lines b.timers c.args.next (overdue-of_due b.fold.params b.fold.lines c.args.next none) c.self.invariant.armed)
+
+pub write_each-requires-clause-passed : goal.write_each-requires-clause-passed
+write_each-requires-clause-passed g c = let now = ap (λ (t : Timers). t.now) c.advance.ensures in omega (arith, now)
 
 pub returns-clause-next : goal.returns-clause-next
 returns-clause-next g c =
@@ -42,7 +71,7 @@ returns-clause-next g c =
     let n = subst (λ (j : Journal). IsNextSweep j.params j.lines j.clock c.args.next) (sym c.self.view_is) c.requires.next in
     let none = subst (λ (j : Journal). NothingDue j.params j.lines c.args.next) (sym c.self.view_is) c.requires.none in
     let share = ap (λ (j : Journal). present_count j.params j.lines) c.self.view_is in
-    rw (c.after-self-inside.ensures, c.params.ensures.params, c.append.ensures.lines, c.append.ensures.params, c.in_ok-reserve.ensures.same, c.in_ok-reserve.ensures.params)
+    rw (c.after-self-inside.ensures, c.params.ensures.params, c.write_each.ensures.lines, c.write_each.ensures.params, c.in_ok-reserve.ensures.same, c.in_ok-reserve.ensures.params)
     (next-sweep b.fold.params b.fold.lines b.clock c.args.next c.look.result c.self.invariant.follows.params c.self.invariant.follows.stands n none (omega (arith, c.look.ensures.least, c.requires.census.share, share)))
 
 pub returns-in_err-check_room-clause-counted : goal.returns-in_err-check_room-clause-counted
@@ -57,6 +86,6 @@ pub returns-clause-counted : goal.returns-clause-counted
 returns-clause-counted g c =
     let b = c.self.inside in
     let is = subst (λ (j : Journal). IsCensusOf j.params j.lines (shown g.C.Census.name g.C.Census.share g.C.Census.changes g.C.Census.looks g.C.Census.others c.args.census.now)) (sym c.self.view_is) c.requires.census in
-    let counted = rw (c.append.ensures.lines, c.append.ensures.params, c.in_ok-reserve.ensures.same, c.in_ok-reserve.ensures.params) at c.append.ensures.counted in
-    rw (← c.self.view_is, c.append.ensures.lines, c.in_ok-reserve.ensures.same)
-    (along-line b.fold.params b.fold.lines (sweep_line c.args.next c.look.result) (shown g.C.Census.name g.C.Census.share g.C.Census.changes g.C.Census.looks g.C.Census.others c.args.census.now) (shown g.C.Census.name g.C.Census.share g.C.Census.changes g.C.Census.looks g.C.Census.others c.look.new.census) (shown g.C.Census.name g.C.Census.share g.C.Census.changes g.C.Census.looks g.C.Census.others c.append.new.census) (stands-bare b.fold.params b.fold.lines b.clock c.self.invariant.follows.stands) refl is c.look.ensures counted)
+    let counted = rw (c.write_each.ensures.lines, c.write_each.ensures.params, c.in_ok-reserve.ensures.same, c.in_ok-reserve.ensures.params) at c.write_each.ensures.counted in
+    rw (← c.self.view_is, c.write_each.ensures.lines, c.in_ok-reserve.ensures.same)
+    (along-line b.fold.params b.fold.lines (sweep_line c.args.next c.look.result) (shown g.C.Census.name g.C.Census.share g.C.Census.changes g.C.Census.looks g.C.Census.others c.args.census.now) (shown g.C.Census.name g.C.Census.share g.C.Census.changes g.C.Census.looks g.C.Census.others c.look.new.census) (shown g.C.Census.name g.C.Census.share g.C.Census.changes g.C.Census.looks g.C.Census.others c.write_each.new.census) (stands-bare b.fold.params b.fold.lines b.clock c.self.invariant.follows.stands) refl is c.look.ensures counted)

@@ -7,7 +7,11 @@ use Rattle.nb_journal.specs.Lawful.{NothingDue, IsLawful}
 use Rattle.nb_bucket.specs.Counting.{shown, IsCensusOf, CountsAlong}
 use Rattle.nb_bucket.specs.Keeps.{IsNextSweep}
 use Rattle.nb_bucket.specs.Dues.{IsNextTimer}
+use Rattle.timer_wheel.specs.Map.{Timers}
+use Rattle.nb_bucket.proofs.NextTimer.{none_before}
+use Rattle.nb_bucket.proofs.Armed.{armed-passed, bare-nodes, next-ahead, timer-made, timer-one}
 use Rattle.nb_bucket.proofs.NextSweep.{next-one}
+use Rattle.nb_bucket.proofs.Ranks.{holds-next_timer}
 use Rattle.nb_bucket.proofs.CountsAlong.{counts-same, counts-timer}
 use Rattle.nb_bucket.proofs.Keeping.{stands-bare, follows-next_timer, next-next_timer, full-next_timer, reached-lawful}
 use Rattle.nb_bucket.proofs.bucket.Bucket.push_timer.Goals as goal
@@ -26,13 +30,40 @@ invariant_of-self-2 g c =
     let b = c.self.inside in
     let n = subst (λ (j : Journal). IsNextSweep j.params j.lines j.clock c.args.next) (sym c.self.view_is) c.requires.next in
     let one = next-one b.fold.params b.fold.lines b.clock b.next_sweep c.args.next c.self.invariant.follows.next n in
-    rw (c.append.ensures.lines, c.append.ensures.params, c.in_ok-reserve.ensures.same, c.in_ok-reserve.ensures.params)
-    (record {
-      follows = follows-next_timer b.fold.params b.limit b.fold.lines b.clock b.next_sweep b.order.items b.last_pass c.in-Some.line c.self.invariant.follows c.in-Some.ensures.next
+    record {
+      follows = rw (c.append.ensures.lines, c.append.ensures.params, c.in_ok-reserve.ensures.same, c.in_ok-reserve.ensures.params)
+          (follows-next_timer b.fold.params b.limit b.fold.lines b.clock b.next_sweep b.last_pass c.in-Some.line c.self.invariant.follows c.in-Some.ensures.next
           (omega (arith, c.in-Some.ensures.due, c.requires.until, one)) (omega (arith, c.in-Some.ensures.due, c.requires.now))
-          (omega (arith, c.in_ok-check_room.ensures.room, ap length c.lines.ensures));
+          (omega (arith, c.in_ok-check_room.ensures.room, ap length c.lines.ensures)));
+      order = rw (c.append.ensures.lines, c.append.ensures.params, c.in_ok-reserve.ensures.same, c.in_ok-reserve.ensures.params)
+          (holds-next_timer b.fold.params b.fold.lines c.in-Some.line b.order c.in-Some.ensures.next c.self.invariant.order);
       victims = c.self.invariant.victims;
-    })
+      ranks = c.self.invariant.ranks;
+      armed = c.append.ensures.armed;
+      passed = let now = c.append.ensures.now ∙ ap (λ (t : Timers). t.now) c.advance.ensures in omega (arith, now);
+    }
+
+pub advance-requires-clause-later : goal.advance-requires-clause-later
+advance-requires-clause-later g c = let b = c.self.inside in next-ahead b.fold.params b.fold.lines c.in-Some.line b.timers c.self.invariant.armed c.in-Some.ensures.next
+
+pub advance-requires-clause-none : goal.advance-requires-clause-none
+advance-requires-clause-none g c = let b = c.self.inside in none_before b.fold.params b.fold.lines b.timers c.in-Some.line.at c.self.invariant.armed c.in-Some.ensures.next.next.least
+
+pub append-requires-clause-armed : goal.append-requires-clause-armed
+append-requires-clause-armed g c =
+    let b = c.self.inside in
+    rw (c.advance.ensures, c.in_ok-reserve.ensures.same, c.in_ok-reserve.ensures.params) (armed-passed b.fold.params b.fold.lines b.timers c.in-Some.line.at c.in-Some.ensures.next.next.least c.self.invariant.armed)
+
+pub append-requires-clause-one : goal.append-requires-clause-one
+append-requires-clause-one g c = let b = c.self.inside in timer-one b.fold.params b.fold.lines c.in-Some.line c.in-Some.ensures.next
+
+pub append-requires-clause-passed : goal.append-requires-clause-passed
+append-requires-clause-passed g c = let now = ap (λ (t : Timers). t.now) c.advance.ensures in omega (arith, now)
+
+pub append-requires-clause-nodes : goal.append-requires-clause-nodes
+append-requires-clause-nodes g c =
+    let b = c.self.inside in
+    rw (c.advance.ensures, c.in_ok-reserve.ensures.same) (bare-nodes b.fold.params b.fold.lines c.in-Some.line b.timers (timer-made b.fold.params b.fold.lines c.in-Some.line c.in-Some.ensures.next) c.self.invariant.armed)
 
 pub returns-clause-next : goal.returns-clause-next
 returns-clause-next g c =
@@ -59,7 +90,7 @@ returns-in_default-clause-lawful g c =
     let one = next-one b.fold.params b.fold.lines b.clock b.next_sweep c.args.next c.self.invariant.follows.next n in
     let none : NothingDue b.fold.params b.fold.lines c.args.until = search rules in
     λ _ le lt. subst (λ (j : Journal). IsLawful j.params j.lines c.args.until) c.self.view_is
-    (reached-lawful b.fold.params b.limit b.fold.lines b.clock b.next_sweep b.order.items b.last_pass c.args.until c.self.invariant.follows none (omega (arith, lt, one)) (subst (λ (j : Journal). j.clock ≤ c.args.until) (sym c.self.view_is) le))
+    (reached-lawful b.fold.params b.limit b.fold.lines b.clock b.next_sweep b.last_pass c.args.until c.self.invariant.follows none (omega (arith, lt, one)) (subst (λ (j : Journal). j.clock ≤ c.args.until) (sym c.self.view_is) le))
 
 pub returns-clause-counted : goal.returns-clause-counted
 returns-clause-counted g c =
