@@ -1,0 +1,4 @@
+pub mod Parts
+pub mod Packets
+pub mod Readings
+pub mod Learnt
