@@ -9,10 +9,12 @@ pub mod CleanRows
 pub mod SetIn
 pub mod MergedSends
 pub mod InlineFates
-pub mod KeysNamed
 pub mod Rows
 pub mod Counting
 pub mod Numbers
 pub mod PacketFates
 pub mod FateCounts
 pub mod HostStates
+pub mod ThreadedRows
+pub mod ThreadedRuns
+pub mod TwoBuckets

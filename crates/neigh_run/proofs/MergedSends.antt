@@ -1,6 +1,7 @@
 -- The operations in merged order that send are as many as the plan's packets, and each of them goes to one bucket.
 use Rattle.std.proofs.Common.{◌≡◌, ℕ, ◌+◌, ◌<◌, ◌≤◌, Bool, true, false, ◌&&◌, ◌==◌, nat_le, if◌then◌else◌, List, [], ◌∷◌, ◌++◌, length, refl, ◌∙◌, ap, arith, length-append}
-use Rattle.std.specs.Prelude.{fold, filter, sum_by}
+use Rattle.std.specs.Prelude.{fold, filter, sum_by, Option, Some, None, IfSome}
+use Rattle.std.specs.Option.{option_map, option_to_list}
 use Rattle.std.specs.List.{list_any}
 use Rattle.std.proofs.lemmas.Bool.{or_parts}
 use Rattle.std.proofs.lemmas.Bool.Decides.{nat_tests}
@@ -17,7 +18,10 @@ use Rattle.nb_base.specs.declared.plan.ControlItem.{ControlItem}
 use Rattle.nb_base.specs.declared.plan.ControlItem.TheVariants as control
 use Rattle.nb_base.specs.Buckets.{bucket_of}
 use Rattle.nb_journal.specs.Keys.{is_send}
-use Rattle.neigh_run.specs.Control.{HostState, host_start, turn}
+use Rattle.nb_queues.specs.SameKey.{has_key}
+use Rattle.heard_frames.proofs.Learnt.{IsTold, heard-told}
+use Rattle.heard_frames.proofs.Learnt as told
+use Rattle.neigh_run.specs.Control.{HostState, host_start, heard, answered, turn}
 use Rattle.neigh_run.specs.Merged.{Entered, id_for, control_ops, sender_ops, senders_ops, insert, merged, goes_to, packet_count, is_sending}
 
 -- how many operations send
@@ -64,7 +68,17 @@ control-sends plan s n (control.Neigh at o ∷ items) h =
     let none = ap one_if parts.0 in
     let rest = control-sends plan behind (n + 1) items parts.1 in
     omega (arith, first, none, rest)
-control-sends plan s n (control.Frame at bytes ∷ items) h = control-sends plan (turn plan s n (control.Frame at bytes)).behind (n + 1) items h
+control-sends plan s n (control.Frame at bytes ∷ items) h =
+    by_op (heard plan (answered s (control.Frame at bytes)) bytes).op (heard-told plan.host (has_key s.proxies) bytes) (control-sends plan (turn plan s n (control.Frame at bytes)).behind (n + 1) items h) where
+      rest : List Entered
+      rest = control_ops plan (turn plan s n (control.Frame at bytes)).behind (n + 1) items
+
+      by_op : (o : Option Op) → IfSome o (IsTold plan.host) → sends_in rest ≡ 0
+          → sends_in (option_to_list (option_map (λ (given : Op). record { at = at; id = id_for 0 n; op = given }) o) ++ rest) ≡ 0
+      by_op None is none = none
+      by_op (Some _) (told.by_arp key mac make solicited e) none = none
+      by_op (Some _) (told.by_solicitation key mac e) none = none
+      by_op (Some _) (told.by_advert key mac router solicited overrides e) none = none
 control-sends plan s n (control.Proxy at key add ∷ items) h = control-sends plan (turn plan s n (control.Proxy at key add)).behind (n + 1) items h
 
 sender-sends : (p n : ℕ) (items : List SendItem) → sends_in (sender_ops p n items) ≡ length items

@@ -208,7 +208,7 @@ control_owns plan s items senders few =
 abbrev pub IsSmall : Entered → Type 0
 IsSmall x = x.id.0 < 137_438_953_472
 
-small_control : (plan : Plan) (s : HostState) (n : ℕ) (items : List ControlItem) → n + length items ≤ 131_073 → Each IsSmall (control_ops plan s n items)
+small_control : (plan : Plan) (s : HostState) (n : ℕ) (items : List ControlItem) → n + length items ≤ 393_217 → Each IsSmall (control_ops plan s n items)
 small_control plan s n [] few = tt
 small_control plan s n (x ∷ xs) few = by_op (turn plan s n x).operation (small_control plan (turn plan s n x).behind (n + 1) xs (omega (arith, few))) where
   by_op : (o : Option Op) → Each IsSmall (control_ops plan (turn plan s n x).behind (n + 1) xs) → Each IsSmall (own_op x n o ++ control_ops plan (turn plan s n x).behind (n + 1) xs)

@@ -8,16 +8,22 @@ use Rattle.nb_base.specs.declared.op.Op.TheVariants as op
 use Rattle.nb_base.specs.declared.plan.Plan.{Plan}
 use Rattle.nb_base.specs.declared.plan.SendItem.{SendItem}
 use Rattle.nb_base.specs.declared.plan.ControlItem.TheVariants as control
+use Rattle.nb_base.specs.declared.host_line.Class.TheVariants as class
+use Rattle.nb_base.specs.declared.host_line.HostLine.TheVariants as host_line
 use Rattle.nb_base.specs.Params.{default_params}
 use Rattle.nud_machine.specs.declared.act.Act.TheVariants as act
-use Rattle.nb_journal.specs.Keys.{is_key}
+use Rattle.nb_queues.specs.SameKey.{is_key}
+use Rattle.nb_queues.specs.declared.request.ProxyJob.{ProxyJob}
+use Rattle.nb_queues.specs.declared.request.ProxyRequest.TheVariants as request
 use Rattle.neigh_run.specs.Merged.{Entered, id_for, merged}
-use Rattle.neigh_run.specs.Plan.{keys_named, is_replayed}
 use Rattle.nd_codec.specs.Checksum.{words_of, pseudo_header, checksum_of}
 use Rattle.nd_codec.specs.Spelling.{header_bytes, message_bytes, solicit_bytes}
 use Rattle.nd_codec.specs.Packet.{solicited_node}
 use Rattle.neigh_run.specs.Frames.{packet_of, sent_frame}
-use Rattle.neigh_run.specs.Control.{proxies_with}
+use Rattle.heard_frames.specs.Fields.{content_of, frame_content, arp_of}
+use Rattle.heard_frames.specs.Heard.{heard_of}
+use Rattle.heard_frames.specs.Answers.{answer_frame}
+use Rattle.neigh_run.specs.Control.{HostState, host_start, turn, state_behind, proxies_with}
 use Rattle.neigh_run.specs.Report.{act_line}
 
 -- the id of a packet names it: of sender p the item of number n
@@ -60,28 +66,6 @@ numbers operations = map (λ (x : Entered). x.id.0) operations
 merged-row : numbers (merged sample) ≡ 34 ∷ 32 ∷ 33 ∷ 66 ∷ 96 ∷ 65 ∷ []
 merged-row = refl
 
--- a proxy line isn't replayed; without it the sample's plan is, and names two keys
-proxied-row : is_replayed sample ≡ false
-unfolding is_replayed
-proxied-row = refl
-
-replayed-row : is_replayed (record sample { control = control.Neigh 5 op.Show ∷ control.Neigh 6 (op.Del two) ∷ [] }) ≡ true
-unfolding is_replayed keys_named is_key
-replayed-row = refl
-
--- nor is an IPv6 key, or another interval of sweeps
-six-row : is_replayed (record sample { control = []; senders = (send 5 (V6 1) ∷ []) ∷ [] }) ≡ false
-unfolding is_replayed
-six-row = refl
-
-interval-row : is_replayed (record sample { control = []; params = record default_params { gc_interval = 20_000 } }) ≡ false
-unfolding is_replayed
-interval-row = refl
-
-named-row : keys_named (merged sample) ≡ two ∷ one ∷ []
-unfolding keys_named is_key
-named-row = refl
-
 -- a frame goes from the host to the address, has the type of IPv4 and the payload as it is
 frame-row : sent_frame sample (record { 0 = 65 }) (record { 0 = 2 ∷ 0 ∷ 0 ∷ 0 ∷ 0 ∷ 9 ∷ [] }) ≡ 2 ∷ 0 ∷ 0 ∷ 0 ∷ 0 ∷ 9 ∷ 2 ∷ 0 ∷ 0 ∷ 0 ∷ 0 ∷ 2 ∷ 8 ∷ 0 ∷ 7 ∷ []
 frame-row = refl
@@ -123,3 +107,43 @@ proxies-again = refl
 proxies-last : proxies_with (proxies_with (one ∷ two ∷ []) (control.Proxy 9 one false)) (control.Proxy 9 one true) ≡ two ∷ one ∷ []
 unfolding is_key
 proxies-last = refl
+
+-- ---- frames that are heard, and proxied requests
+
+abbrev nine : Key
+nine = V4 0x0a000009
+
+-- an ARP request of 10.0.0.7 at 00:11:22:33:44:55 to all, for the address 10.0.0.LAST
+abbrev asks : ℕ → List ℕ
+asks last =
+    0xff ∷ 0xff ∷ 0xff ∷ 0xff ∷ 0xff ∷ 0xff ∷ 0 ∷ 0x11 ∷ 0x22 ∷ 0x33 ∷ 0x44 ∷ 0x55 ∷ 8 ∷ 6 ∷ 0 ∷ 1 ∷ 8 ∷ 0 ∷ 6 ∷ 4 ∷ 0 ∷ 1
+    ∷ 0 ∷ 0x11 ∷ 0x22 ∷ 0x33 ∷ 0x44 ∷ 0x55 ∷ 10 ∷ 0 ∷ 0 ∷ 7 ∷ 0 ∷ 0 ∷ 0 ∷ 0 ∷ 0 ∷ 0 ∷ 10 ∷ 0 ∷ 0 ∷ last ∷ []
+
+abbrev job : ProxyJob
+job = record { due = 805; request = request.Arp somewhere 0x0a000007 0x0a000009 }
+
+abbrev answering : HostState
+answering = record { proxies = nine ∷ []; waiting = job ∷ [] }
+
+-- a request for the host's address makes an entry
+learnt-row : (turn sample host_start 1 (control.Frame 5 (asks 3))).operation ≡ Some (op.Arp (V4 0x0a000007) somewhere true false)
+unfolding heard_of content_of frame_content arp_of
+learnt-row = refl
+
+-- one for a proxied address waits for 800 milliseconds
+waiting-row : (state_behind sample host_start 1 (control.Proxy 0 nine true ∷ control.Frame 5 (asks 9) ∷ [])).waiting ≡ job ∷ []
+unfolding heard_of content_of frame_content arp_of is_key
+waiting-row = refl
+
+-- it is answered at its due, before the item that comes behind it, though its proxy entry is gone
+answered-row : (turn sample (record answering { proxies = [] }) 3 (control.Neigh 1_000 op.Show)).lines [] ≡ host_line.Answer 805 (
+    0 ∷ 0x11 ∷ 0x22 ∷ 0x33 ∷ 0x44 ∷ 0x55 ∷ 2 ∷ 0 ∷ 0 ∷ 0 ∷ 0 ∷ 2 ∷ 8 ∷ 6 ∷ 0 ∷ 1 ∷ 8 ∷ 0 ∷ 6 ∷ 4 ∷ 0 ∷ 2
+    ∷ 2 ∷ 0 ∷ 0 ∷ 0 ∷ 0 ∷ 2 ∷ 10 ∷ 0 ∷ 0 ∷ 9 ∷ 0 ∷ 0x11 ∷ 0x22 ∷ 0x33 ∷ 0x44 ∷ 0x55 ∷ 10 ∷ 0 ∷ 0 ∷ 7 ∷ []
+    ) ∷ host_line.Neigh 3 1_000 [] ∷ []
+unfolding answer_frame
+answered-row = refl
+
+-- where as many wait as may, one more doesn't
+full-row : (turn (record sample { params = record default_params { proxy_qlen = 1 } }) answering 2 (control.Frame 5 (asks 9))).lines [] ≡ host_line.Frame 2 5 class.Arp (Some false) None None ∷ []
+unfolding heard_of content_of frame_content arp_of is_key
+full-row = refl

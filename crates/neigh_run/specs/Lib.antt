@@ -9,4 +9,7 @@ pub mod Fates
 pub mod Entries
 pub mod Report
 pub mod Plan
+pub mod Windows
+pub mod Bounds
+pub mod Threaded
 pub mod Laws

@@ -1,5 +1,5 @@
 -- The operations of a plan, in the order in which an inline run enters them.
-use Rattle.std.specs.Prelude.{ℕ, ◌+◌, ◌*◌, Bool, true, false, nat_le, ◌==◌, if◌then◌else◌, List, [], ◌∷◌, ◌++◌, fold, filter, length, sum_by, Option}
+use Rattle.std.specs.Prelude.{ℕ, ◌+◌, ◌*◌, ◌%◌, Bool, true, false, nat_le, ◌==◌, if◌then◌else◌, List, [], ◌∷◌, ◌++◌, fold, filter, length, sum_by, Option}
 use Rattle.std.specs.Option.{option_map, option_map_or, option_to_list}
 use Rattle.nb_base.specs.declared.time.OpId.{OpId}
 use Rattle.nb_base.specs.declared.op.Op.{Op}
@@ -22,6 +22,10 @@ pub record Entered : Type 0 where
 abbrev pub id_for : ℕ → ℕ → OpId
 id_for p n = record { 0 = 32 * n + p }
 
+-- the participant whose item an id names
+abbrev pub participant_of : OpId → ℕ
+participant_of id = id.0 % 32
+
 -- the operation of participant 0's item of number n, in the state before it
 abbrev pub control_op : Plan → HostState → ℕ → ControlItem → Option Entered
 control_op plan s n item = option_map (λ o. record { at = control_at item; id = id_for 0 n; op = o }) (turn plan s n item).operation
@@ -31,10 +35,14 @@ abbrev pub control_ops : Plan → HostState → ℕ → List ControlItem → Lis
 control_ops plan s n [] = []
 control_ops plan s n (item ∷ items) = option_to_list (control_op plan s n item) ++ control_ops plan (turn plan s n item).behind (n + 1) items
 
+-- the operation of a sender's packet of number n: to send so many bytes
+abbrev pub packet_op : ℕ → ℕ → SendItem → Entered
+packet_op p n item = record { at = item.at; id = id_for p n; op = op.Send item.key (length item.payload) }
+
 -- the operations of a sender's packets, of which the first has this number
 abbrev pub sender_ops : ℕ → ℕ → List SendItem → List Entered
 sender_ops p n [] = []
-sender_ops p n (item ∷ items) = record { at = item.at; id = id_for p n; op = op.Send item.key (length item.payload) } ∷ sender_ops p (n + 1) items
+sender_ops p n (item ∷ items) = packet_op p n item ∷ sender_ops p (n + 1) items
 
 -- the operations of all senders, of which the first has this number
 abbrev pub senders_ops : ℕ → List (List SendItem) → List Entered
