@@ -28,7 +28,7 @@ use Rattle.run_texts.proofs.Named.{IsNamed, ops-named, AreNumbered}
 
 -- ---- the plan's operations in merged order
 
-each-filter : (P : Entered → Type 0) (t : Entered → Bool) (xs : List Entered) → Each P xs → Each P (filter t xs)
+pub each-filter : (P : Entered → Type 0) (t : Entered → Bool) (xs : List Entered) → Each P xs → Each P (filter t xs)
 each-filter P t [] h = tt
 each-filter P t (x ∷ xs) h = by_test (t x) (each-filter P t xs h.1) where
   by_test : (b : Bool) → Each P (filter t xs) → Each P (if b then x ∷ filter t xs else filter t xs)

@@ -11,3 +11,5 @@ pub mod Inline
 pub mod Writable
 pub mod InlineTexts
 pub mod Worked
+pub mod Alone
+pub mod Threaded

@@ -1,7 +1,7 @@
 -- An inline run of a plan that can be played can be written: its journals are short, the machine can step over them, and few entries are seen.
 use Rattle.std.proofs.Common.{◌≡◌, ℕ, suc, ◌+◌, ◌*◌, ◌^◌, ◌<◌, ◌≤◌, Bool, true, false, nat_le, if◌then◌else◌, List, [], ◌∷◌, ◌++◌, length, map, refl, sym, ap, subst, arith}
 use Rattle.std.specs.Prelude.{◌==◌, Option, Some, None, IfSome, IsTrue, sum_by, fold}
-use Rattle.std.specs.Option.{option_to_list}
+use Rattle.std.specs.Option.{option_map, option_to_list}
 use Rattle.std.specs.List.{AllByRecursion, list_any}
 use Rattle.std.proofs.Math.Nat.{div-le_self, mul-le-mul_left}
 use Rattle.std.proofs.lemmas.Bool.Decides.{nat_tests}
@@ -30,8 +30,11 @@ use Rattle.nb_journal.proofs.Stepped.{orderly_stepped}
 use Rattle.nb_journal.proofs.Lines.{each-at, each-of}
 use Rattle.nb_journal.proofs.Tests.{and_both, le_to}
 use Rattle.text_codes.proofs.Lacking.{Each-weaker}
-use Rattle.neigh_run.specs.Control.{HostState, host_start, control_at, turn}
-use Rattle.neigh_run.specs.Merged.{Entered, goes_to, insert, control_op, control_ops, sender_ops, senders_ops, merged, merged_for}
+use Rattle.nb_queues.specs.SameKey.{has_key}
+use Rattle.heard_frames.proofs.Learnt.{IsTold, heard-told}
+use Rattle.heard_frames.proofs.Learnt as told
+use Rattle.neigh_run.specs.Control.{HostState, host_start, control_at, heard, answered, turn}
+use Rattle.neigh_run.specs.Merged.{Entered, id_for, goes_to, insert, control_op, control_ops, sender_ops, senders_ops, merged, merged_for}
 use Rattle.neigh_run.specs.Seen.{calls_before, front_of, standing_from, calls, sees}
 use Rattle.neigh_run.specs.Inline.{entered_line, ends_own, IsInlineJournal, AreInlineJournals}
 use Rattle.neigh_run.specs.Plan.{send_at, IsPacket, AreSendLists, IsWithinLimits}
@@ -51,7 +54,12 @@ record IsPlayed (x : Entered) : Type 0 where
 
 item-played : (plan : Plan) (s : HostState) (n : ℕ) (item : ControlItem) → is_asked_item item ≡ true → control_at item ≤ greatest → Each IsPlayed (option_to_list (control_op plan s n item))
 item-played plan s n (control.Neigh at o) h g = (record { at = g; asked = h }, tt)
-item-played plan s n (control.Frame at bytes) h g = tt
+item-played plan s n (control.Frame at bytes) h g = by_op (heard plan (answered s (control.Frame at bytes)) bytes).op (heard-told plan.host (has_key s.proxies) bytes) where
+  by_op : (o : Option Op) → IfSome o (IsTold plan.host) → Each IsPlayed (option_to_list (option_map (λ (given : Op). record { at = at; id = id_for 0 n; op = given }) o))
+  by_op None is = tt
+  by_op (Some _) (told.by_arp key mac make solicited e) = (record { at = g; asked = refl }, tt)
+  by_op (Some _) (told.by_solicitation key mac e) = (record { at = g; asked = refl }, tt)
+  by_op (Some _) (told.by_advert key mac router solicited overrides e) = (record { at = g; asked = refl }, tt)
 item-played plan s n (control.Proxy at key add) h g = tt
 
 control-played : (plan : Plan) (s : HostState) (n : ℕ) (items : List ControlItem) → AllByRecursion (λ item. is_asked_item item ≡ true) items → AllByRecursion (λ item. control_at item ≤ greatest) items → Each IsPlayed (control_ops plan s n items)
@@ -76,9 +84,9 @@ ops-played plan play =
     (control-played plan host_start 1 plan.control play.asked play.control)
     (senders-played 1 plan.senders play.limits.senders play.senders)
 
--- 17 participants have no more than 131,072 items each
+-- participant 0 has no more than 393,216 items, and 16 senders have no more than 131,072 each
 abbrev most : ℕ
-most = 2_228_224
+most = 2_490_368
 
 control-few : (plan : Plan) (s : HostState) (n : ℕ) (items : List ControlItem) → length (control_ops plan s n items) ≤ length items
 control-few plan s n [] = omega arith

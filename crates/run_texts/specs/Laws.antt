@@ -19,6 +19,8 @@ use Rattle.neigh_run.specs.Control.{control_at}
 use Rattle.neigh_run.specs.Plan.{IsWithinLimits}
 use Rattle.neigh_run.specs.Inline.{IsInlineRun}
 use Rattle.neigh_run.specs.Report.{report, report_text}
+use Rattle.neigh_run.specs.Windows.{mark_starts}
+use Rattle.neigh_run.specs.Threaded.{IsThreadedRun}
 use Rattle.run_texts.specs.Told.{IsToldRun}
 
 -- what a line saw is a number of 32 bits
@@ -85,5 +87,22 @@ TextsTellInlineRuns =
     → IsPlayable plan
     → IsInlineRun plan run
     → IsToldRun mode.Inline [] plan other
+    → report_text run ≡ report_text other
+    → run ≡ other
+
+-- a run of a plan with a thread for each participant is told by its text, with a mark at the first moment of each window that has items, and one at the end
+abbrev pub ThreadedRunsAreTold : Type 0
+ThreadedRunsAreTold = (plan : Plan) (run : Run) → IsWithinLimits plan → IsThreadedRun plan run → IsToldRun mode.Threads (mark_starts plan) plan run
+
+-- so it is told from every other such run of the plan, where one of them can be written
+abbrev pub TextsTellThreadedRuns : Type 0
+TextsTellThreadedRuns =
+    (plan : Plan) (run other : Run)
+    → InRange plan.params
+    → is_name plan.host.dev ≡ true
+    → IsWithinLimits plan
+    → IsWritable run
+    → IsThreadedRun plan run
+    → IsThreadedRun plan other
     → report_text run ≡ report_text other
     → run ≡ other

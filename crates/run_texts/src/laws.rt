@@ -1,5 +1,5 @@
 //! The laws of the texts of runs. Each function does nothing: its contract is the law.
-ghost use Rattle.run_texts.specs.Laws.{ReportsTellToldRuns, TextsTellToldRuns, InlineRunsAreTold, InlineRunsAreWritable, TextsTellInlineRuns};
+ghost use Rattle.run_texts.specs.Laws.{ReportsTellToldRuns, TextsTellToldRuns, InlineRunsAreTold, InlineRunsAreWritable, TextsTellInlineRuns, ThreadedRunsAreTold, TextsTellThreadedRuns};
 
 /// Two runs of one plan, in one mode and with marks at the same moments, that are told by their texts are one where they have one report,
 /// and so where they have one text; one of them has to be one that can be written.
@@ -23,4 +23,11 @@ pub fn inline_runs_are_writable()
 /// told by its own.
 pub fn texts_tell_inline_runs()
     ensures { TextsTellInlineRuns }
+{}
+
+/// A run with a thread for each participant, of a plan within its limits, is told by its text, with any number of buckets: from every
+/// other such run of the plan, where one of them can be written.
+pub fn threaded_runs_are_told()
+    ensures told { ThreadedRunsAreTold }
+    ensures texts { TextsTellThreadedRuns }
 {}
