@@ -1,0 +1,9 @@
+pub mod Tokens
+pub mod Holds
+pub mod Stamps
+pub mod Evidence
+pub mod Growing
+pub mod Laws
+pub mod Closing
+pub mod Refused
+pub mod FromTokens
