@@ -1,0 +1,4 @@
+pub mod States
+pub mod Growing
+pub mod Fitting
+pub mod Measures
