@@ -37,6 +37,11 @@ any_order : asked (codes "--window=60000" ∷ codes "--buckets" ∷ codes "1" �
 unfolding clap_on_literals asked_in is_taken given
 any_order = refl
 
+capture_behind_equals : (script capture : Text) → asked ((codes "--script=" ++ script) ∷ (codes "--capture=" ++ capture) ∷ [])
+    ≡ Some (record { script = script; capture = Some capture; mode = Inline; window = 50; buckets = 1 })
+unfolding clap_on_literals asked_in is_taken given
+capture_behind_equals script capture = refl
+
 -- ---- words that aren't
 
 anywhere : (before here after : Bool) → here ≡ true → (before || (here || after)) ≡ true
@@ -101,10 +106,6 @@ unfolding clap_on_literals asked_in is_taken given
 no_version = refl
 
 -- what isn't built yet
-no_capture : asked (codes "--script" ∷ codes "s" ∷ codes "--capture" ∷ codes "c" ∷ []) ≡ None
-unfolding clap_on_literals asked_in is_taken given
-no_capture = refl
-
 no_threads : asked (codes "--script" ∷ codes "s" ∷ codes "--mode" ∷ codes "threads" ∷ []) ≡ None
 unfolding clap_on_literals asked_in is_taken given
 no_threads = refl

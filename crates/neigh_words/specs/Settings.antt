@@ -1,4 +1,4 @@
--- The words of the command `neigh --script FILE [--mode inline] [--window MS] [--buckets N]`, and the settings that they ask for (this project's own). A capture, the mode `threads` and other numbers of buckets aren't built yet, so words that ask for them aren't of the command.
+-- The words of the command `neigh --script FILE [--capture FILE] [--mode inline] [--window MS] [--buckets N]`, and the settings that they ask for (this project's own). The mode `threads` and other numbers of buckets aren't built yet, so words that ask for them aren't of the command.
 use Rattle.std.specs.Prelude.{ℕ, Bool, true, ◌||◌, ◌==◌, if◌then◌else◌, List, [], ◌∷◌, Option, Some, None, bytes_eq, codes, string_bytes}
 use Rattle.std.specs.List.{list_any}
 use Rattle.std.specs.Option.{option_map}
@@ -32,7 +32,7 @@ needed_option name = record (option_named name) { required = true }
 abbrev pub neigh_command : App
 neigh_command = record {
   top = record (new_shape (codes "neigh")) {
-    rules = needed_option (codes "script") ∷ option_named (codes "mode") ∷ option_named (codes "window") ∷ option_named (codes "buckets") ∷ [];
+    rules = needed_option (codes "script") ∷ option_named (codes "capture") ∷ option_named (codes "mode") ∷ option_named (codes "window") ∷ option_named (codes "buckets") ∷ [];
     no_binary_name = true;
     disable_help_flag = true;
     disable_version_flag = true;
@@ -88,14 +88,14 @@ pub record Asked : Type 0 where
 abbrev pub asked_by : Settings → Asked
 asked_by s = record { script = string_bytes s.script; capture = option_map string_bytes s.capture; mode = s.mode; window = s.window; buckets = s.buckets }
 
--- the settings that the options' values ask for: inline, 50 ms and one bucket where the words don't say, and no capture
+-- the settings that the options' values ask for: inline, 50 ms and one bucket where the words don't say, and no capture where none is named
 unfoldable pub asked_in : List Row → Option Asked
 asked_in rows = do
   script ← first_of (codes "script") rows
   mode ← read_or Inline mode_of (first_of (codes "mode") rows)
   window ← read_or 50 window_of (first_of (codes "window") rows)
   buckets ← read_or 1 buckets_of (first_of (codes "buckets") rows)
-  Some (record { script = script; capture = None; mode = mode; window = window; buckets = buckets })
+  Some (record { script = script; capture = first_of (codes "capture") rows; mode = mode; window = window; buckets = buckets })
 
 -- the settings that words of the command ask for, and `None` exactly where the words aren't of the command
 abbrev pub asked : List Text → Option Asked

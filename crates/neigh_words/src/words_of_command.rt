@@ -6,7 +6,6 @@ ghost use Rattle.clap.specs.Matches.{found_of};
 ghost use Rattle.clap.specs.Simple.{app_of};
 ghost use Rattle.clap.specs.Values.{kind_of};
 ghost use Rattle.clap.specs.Walk.{first_of, rows_of, rule_of};
-ghost use Rattle.nb_base.specs.Buckets.{is_bucket_count};
 ghost use Rattle.neigh_words.specs.Settings.{asked, asked_by, asked_in, given, is_taken, neigh_command};
 ghost use Rattle.neigh_words.specs.Settings as of;
 ghost use Rattle.neigh_words.specs.Window.{is_window};
@@ -17,11 +16,11 @@ use clap::{Arg, ArgAction, ArgMatches, Command, Error};
 use nb_base::{Mode, read_number};
 use std::alloc::{AllocError, Global};
 
-/// The settings that the command's words ask for: `--script FILE [--mode inline] [--window MS] [--buckets N]`, each option at most once and in
+/// The settings that the command's words ask for: `--script FILE [--capture FILE] [--mode inline] [--window MS] [--buckets N]`, each option at most once and in
 /// any order, its value as the next word or behind `=`. MS is 1 to 60,000 and N is 1, each 1 to 10 decimal digits. A value that begins with
 /// `-` stands behind `=`, and no word is `-` or `--`. The words are those behind the program's own name.
 ///
-/// Without their options the mode is inline, the window 50 ms and the number of buckets 1. No words of the command ask for a capture yet.
+/// Without their options there is no capture, the mode is inline, the window 50 ms and the number of buckets 1.
 ///
 /// # Errors
 ///
@@ -79,6 +78,7 @@ fn command<'a>(alloc: Global) -> Result<Command<'a>, AllocError>
         .disable_version_flag(true);
     command
         .arg(script)?
+        .arg(option(alloc, "capture"))?
         .arg(option(alloc, "mode"))?
         .arg(option(alloc, "window"))?
         .arg(option(alloc, "buckets"))
@@ -113,17 +113,30 @@ fn settings_in(alloc: Global, matches: &ArgMatches<'_>) -> Result<Settings, Sett
     let Ok(script) = String::from_str(alloc, script) else {
         return Err(SettingsFail::Memory);
     };
+    let Ok(capture) = capture_in(alloc, matches) else {
+        return Err(SettingsFail::Memory);
+    };
     Ok(Settings {
         script,
-        capture: None,
+        capture,
         mode,
         window,
         buckets,
     })
 }
 
+fn capture_in(alloc: Global, matches: &ArgMatches<'_>) -> Result<Option<String>, AllocError>
+    ensures { IfOk result (λ capture. option_map string_bytes capture ≡ first_of (codes "capture") (rows_of (found_of matches.now))) }
+{
+    match value_of(matches, "capture") {
+        Some(name) => Ok(Some(String::from_str(alloc, name)?)),
+        None => Ok(None),
+    }
+}
+
 fn mode_in(matches: &ArgMatches<'_>) -> Option<Mode>
-    ensures { result ≡ of.read_or Mode.Inline of.mode_of (first_of (codes "mode") (rows_of (found_of matches.now))) }
+    ensures value { result ≡ of.read_or Mode.Inline of.mode_of (first_of (codes "mode") (rows_of (found_of matches.now))) }
+    ensures inline { IfSome result (λ mode. mode ≡ Mode.Inline) }
 {
     match value_of(matches, "mode") {
         Some(text) => read_mode(text),
@@ -143,7 +156,7 @@ fn window_in(matches: &ArgMatches<'_>) -> Option<u32>
 
 fn buckets_in(matches: &ArgMatches<'_>) -> Option<u32>
     ensures value { result ≡ of.read_or 1 of.buckets_of (first_of (codes "buckets") (rows_of (found_of matches.now))) }
-    ensures fits { IfSome result (λ n. IsTrue (is_bucket_count n)) }
+    ensures one { IfSome result (λ n. n ≡ 1) }
 {
     match value_of(matches, "buckets") {
         Some(text) => read_buckets(text),
@@ -159,7 +172,8 @@ fn value_of<'a>(matches: &ArgMatches<'a>, name: &str) -> Option<&'a str>
 }
 
 fn read_mode(text: &str) -> Option<Mode>
-    ensures { result ≡ of.mode_of text.now }
+    ensures value { result ≡ of.mode_of text.now }
+    ensures inline { IfSome result (λ mode. mode ≡ Mode.Inline) }
 {
     if text == "inline" {
         Some(Mode::Inline)
@@ -182,7 +196,7 @@ fn read_window(text: &str) -> Option<u32>
 
 fn read_buckets(text: &str) -> Option<u32>
     ensures value { result ≡ of.buckets_of text.now }
-    ensures fits { IfSome result (λ n. IsTrue (is_bucket_count n)) }
+    ensures one { IfSome result (λ n. n ≡ 1) }
 {
     let number = read_number(text.as_bytes())?;
     if number == 1 { Some(1) } else { None }
