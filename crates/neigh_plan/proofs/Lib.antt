@@ -1,8 +1,10 @@
 mod Planned
+pub mod Items
 mod Merges
 pub mod Orders
 mod Participants
 pub mod Owners
-mod KeysNamed
+mod Bounds
 pub mod ScriptLimits
 pub mod ScriptBounds
+pub mod FileBounds

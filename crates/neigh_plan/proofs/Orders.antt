@@ -14,7 +14,7 @@ use Rattle.neigh_plan.proofs.Merges.{insert_lines-sorted, lines_of-by_moment}
 abbrev pub entered_at : Entered → ℕ
 entered_at x = x.at
 
-le_not : (m n : ℕ) → nat_le m n ≡ false → n < m
+pub le_not : (m n : ℕ) → nat_le m n ≡ false → n < m
 le_not m n e = ⊎_elim (λ (lt : n < m). lt) (λ (le : m ≤ n). absurd (true≢false (sym (le_to m n le) ∙ e))) (cases_lt n m)
 
 length_insert : (x : Entered) (ys : List Entered) → length (insert x ys) ≡ length ys + 1

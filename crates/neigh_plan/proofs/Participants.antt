@@ -89,7 +89,7 @@ packet_at (y ∷ ys) (suc i) x h lt at = packet_at ys i x h.1 (omega (arith, lt)
 
 -- ---- the participants one after the other
 
-senders_snoc : (p : ℕ) (senders : List (List SendItem)) (items : List SendItem) → senders_ops p (senders ++ items ∷ []) ≡ senders_ops p senders ++ sender_ops (p + length senders) 1 items
+pub senders_snoc : (p : ℕ) (senders : List (List SendItem)) (items : List SendItem) → senders_ops p (senders ++ items ∷ []) ≡ senders_ops p senders ++ sender_ops (p + length senders) 1 items
 senders_snoc p [] items = let same : p + 0 ≡ p = omega arith in rw same (append-nil (sender_ops p 1 items))
 senders_snoc p (y ∷ ys) items =
     let next : p + suc (length ys) ≡ p + 1 + length ys = omega arith in

@@ -7,7 +7,7 @@ use Rattle.neigh_script.specs.declared.script.Script.{Script}
 use Rattle.neigh_script.specs.declared.script.ScriptItem.{ScriptItem}
 use Rattle.neigh_script.specs.declared.script.ScriptItem.TheVariants as item
 use Rattle.neigh_script.specs.Context.{at_of}
-use Rattle.neigh_run.specs.Plan.{control_items, sends_of, senders_from, plan_of, RisesFrom, control_at, send_at, IsList, IsPacket, IsSentPacket, AreSendLists, IsWithinLimits, IsScriptWithinLimits}
+use Rattle.neigh_run.specs.Plan.{control_items, sends_of, senders_from, plan_of, RisesFrom, control_at, send_at, IsList, most_script_lines, IsPacket, IsSentPacket, AreSendLists, IsWithinLimits, IsScriptWithinLimits}
 
 next_sender : (k n : ℕ) (items : List ScriptItem) → senders_from k (suc n) items ≡ senders_from k n items ++ sends_of (k + n) items ∷ []
 next_sender k zero items = let same : k + 0 ≡ k = omega arith in rw same refl
@@ -26,13 +26,13 @@ pub rises-lower : (m lower : ℕ) (moments : List ℕ) → lower ≤ m → Rises
 rises-lower m lower [] le h = tt
 rises-lower m lower (at ∷ moments) le h = let first = h.0 in (omega (arith, le, first), h.1)
 
-rises_control : (m : ℕ) (items : List ScriptItem) → RisesFrom m (map at_of items) → RisesFrom m (map control_at (control_items items))
+pub rises_control : (m : ℕ) (items : List ScriptItem) → RisesFrom m (map at_of items) → RisesFrom m (map control_at (control_items items))
 rises_control m [] h = tt
 rises_control m (item.Neigh at o ∷ items) h = (h.0, rises_control at items h.1)
 rises_control m (item.Proxy at key add ∷ items) h = (h.0, rises_control at items h.1)
 rises_control m (item.Send at sender key payload ∷ items) h = rises-lower at m (map control_at (control_items items)) h.0 (rises_control at items h.1)
 
-few_control : (items : List ScriptItem) → length (map control_at (control_items items)) ≤ length (map at_of items)
+pub few_control : (items : List ScriptItem) → length (map control_at (control_items items)) ≤ length (map at_of items)
 few_control [] = omega arith
 few_control (item.Neigh at o ∷ items) = let rest = few_control items in omega (arith, rest)
 few_control (item.Proxy at key add ∷ items) = let rest = few_control items in omega (arith, rest)
@@ -66,7 +66,7 @@ sent_packets k (item.Send at sender key payload ∷ items) h = by_test (sender =
   by_test true rest = (h.0, rest)
   by_test false rest = rest
 
-are_lists : (k n : ℕ) (items : List ScriptItem) → IsList (map at_of items) → AllByRecursion IsSentPacket items → AreSendLists (senders_from k n items)
+are_lists : (k n : ℕ) (items : List ScriptItem) → IsList most_script_lines (map at_of items) → AllByRecursion IsSentPacket items → AreSendLists (senders_from k n items)
 are_lists k zero items h packets = tt
 are_lists k (suc n) items h packets =
     let few = h.few in

@@ -26,8 +26,10 @@ use Rattle.neigh_script.specs.Limits as limits
 use Rattle.neigh_run.specs.Control.{HostState, host_start, turn}
 use Rattle.neigh_run.specs.Merged.{Entered, control_ops, sender_ops, senders_ops, merged}
 use Rattle.neigh_run.specs.Plan.{control_at, send_at, control_items, sends_of, senders_from, plan_of}
-use Rattle.neigh_plan.specs.Inline.{most_lines, greatest_of, last_item_at, is_given_op, has_given_ops, plan_bound}
+use Rattle.neigh_plan.specs.Inline.{most_lines, greatest_of, last_item_at, is_given_op, has_given_ops, plan_bound, IsEnterable}
 use Rattle.neigh_plan.proofs.Orders.{length_all}
+use Rattle.neigh_plan.proofs.Planned.{within_limits}
+use Rattle.neigh_plan.proofs.ScriptLimits.{script_within, one_bucket}
 use Rattle.neigh_plan.proofs.Participants.{control_long, sender_long}
 
 -- ---- the operations
@@ -39,7 +41,7 @@ given_settable nud.Reachable h = refl
 given_settable nud.Stale h = refl
 given_settable _ h = cc
 
-given_op : (host : Host) (o : Op) → IsOpWithin host o → is_given_op o ≡ true
+pub given_op : (host : Host) (o : Op) → IsOpWithin host o → is_given_op o ≡ true
 given_op host (op.Add key mac state) h = given_settable state h.1
 given_op host (op.Change key mac state) h = given_settable state h.1
 given_op host (op.Replace key mac state) h = given_settable state h.1
@@ -65,10 +67,10 @@ script_params script window buckets h = h.params
 
 -- ---- the moments
 
-abbrev IsEarlyItem : ScriptItem → Type 0
+abbrev pub IsEarlyItem : ScriptItem → Type 0
 IsEarlyItem item = at_of item ≤ 2_592_000_000
 
-early_items : (host : Host) (senders : ℕ) (items : List ScriptItem) → AllByRecursion (IsItemWithin host senders) items → AllByRecursion IsEarlyItem items
+pub early_items : (host : Host) (senders : ℕ) (items : List ScriptItem) → AllByRecursion (IsItemWithin host senders) items → AllByRecursion IsEarlyItem items
 early_items host senders [] h = tt
 early_items host senders (x ∷ items) h = (h.0.0, early_items host senders items h.1)
 
@@ -88,11 +90,11 @@ sends_upto k (item.Send at sender key payload ∷ items) h = by_test (sender == 
   by_test true rest = let here = h.0 in omega (arith, here, rest)
   by_test false rest = rest
 
-both_upto : (m : ℕ) (xs ys : List ℕ) → greatest_of xs ≤ m → greatest_of ys ≤ m → greatest_of (xs ++ ys) ≤ m
+pub both_upto : (m : ℕ) (xs ys : List ℕ) → greatest_of xs ≤ m → greatest_of ys ≤ m → greatest_of (xs ++ ys) ≤ m
 both_upto m [] ys a b = b
 both_upto m (x ∷ xs) ys a b = let rest = both_upto m xs ys (omega (arith, a)) b in omega (arith, a, rest)
 
-senders_upto : (k n : ℕ) (items : List ScriptItem) → AllByRecursion IsEarlyItem items → greatest_of (flat_map (map send_at) (senders_from k n items)) ≤ 2_592_000_000
+pub senders_upto : (k n : ℕ) (items : List ScriptItem) → AllByRecursion IsEarlyItem items → greatest_of (flat_map (map send_at) (senders_from k n items)) ≤ 2_592_000_000
 senders_upto k zero items h = omega arith
 senders_upto k (suc n) items h = both_upto 2_592_000_000 (map send_at (sends_of k items)) (flat_map (map send_at) (senders_from (k + 1) n items)) (sends_upto k items h) (senders_upto (k + 1) n items h)
 
@@ -101,6 +103,16 @@ unfolding plan_of last_item_at
 script_upto script window buckets h =
     let early = early_items script.host script.senders script.items h.items in
     both_upto 2_592_000_000 (map control_at (control_items script.items)) (flat_map (map send_at) (senders_from 1 script.senders script.items)) (control_upto script.items early) (senders_upto 1 script.senders script.items early)
+
+-- so its operations go into one bucket
+pub script_enterable : (script : Script) (window : ℕ) → limits.IsWithinLimits script → length script.items ≤ 131_072 → IsEnterable (plan_of script window 1)
+script_enterable script window h few = record {
+  params = script_params script window 1 h;
+  one_bucket = one_bucket script window;
+  within = within_limits script window 1 (script_within script h few);
+  moments = script_upto script window 1 h;
+  operations = script_given script window 1 h;
+}
 
 -- ---- how many operations there are
 

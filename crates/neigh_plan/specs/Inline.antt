@@ -1,17 +1,16 @@
 -- What the replay of a plan by one thread asks of the plan, and how many lines its journal can get.
-use Rattle.std.specs.Prelude.{ℕ, Bool, ◌&&◌, not, max, List, [], ◌∷◌, ◌++◌, map, flat_map, length}
+use Rattle.std.specs.Prelude.{◌≡◌, ℕ, ◌≤◌, Bool, true, ◌&&◌, not, max, List, [], ◌∷◌, ◌++◌, map, flat_map, length}
 use Rattle.std.specs.List.{list_all}
 use Rattle.nb_base.specs.declared.op.Op.{Op}
+use Rattle.nb_base.specs.Params.{InRange}
 use Rattle.nb_base.specs.declared.plan.Plan.{Plan}
+use Rattle.nud_machine.specs.Asked.{greatest}
 use Rattle.nb_journal.specs.Keys.{is_own, is_send, may_be_asked}
 use Rattle.nb_journal.specs.Accounts.{line_bound}
+pub use Rattle.nb_journal.specs.Accounts.{most_lines}
 use Rattle.neigh_run.specs.Control.{host_start}
 use Rattle.neigh_run.specs.Merged.{control_ops, merged}
-use Rattle.neigh_run.specs.Plan.{control_at, send_at}
-
--- the most lines of a journal: 2^22
-abbrev pub most_lines : ℕ
-most_lines = 4_194_304
+use Rattle.neigh_run.specs.Plan.{control_at, send_at, IsWithinLimits}
 
 -- the greatest of moments, or 0 where there is none
 abbrev pub greatest_of : List ℕ → ℕ
@@ -33,6 +32,14 @@ is_given_op o = is_own o && (not (is_send o) && may_be_asked o)
 -- and each of participant 0 is such a one
 unfoldable pub has_given_ops : Plan → Bool
 has_given_ops plan = list_all (λ x. is_given_op x.op) (control_ops plan host_start 1 plan.control)
+
+-- a plan whose operations go into one bucket: its parameters are in their ranges, its items are within the limits of a plan and no later than the greatest moment, and participant 0 has such operations
+pub record IsEnterable (plan : Plan) : Type 0 where
+  pub params : InRange plan.params
+  pub one_bucket : plan.buckets ≡ 1
+  pub within : IsWithinLimits plan
+  pub moments : last_item_at plan ≤ greatest
+  pub operations : has_given_ops plan ≡ true
 
 -- the most lines that the plan's journal can have
 unfoldable pub plan_bound : Plan → ℕ

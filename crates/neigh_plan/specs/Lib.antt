@@ -1,3 +1,4 @@
 pub mod Merging
 pub mod Inline
 pub mod Files
+pub mod Planning

@@ -1,6 +1,6 @@
 //! The operations of a plan in the order in which an inline run enters them, as lines.
 ghost use Rattle.std.specs.Prelude.{◌≡◌, ℕ, ◌+◌, ◌<◌, ◌≤◌, ◌^◌, [], ◌∷◌, ◌++◌, map, length, IfOk, OnOk, IfSome, MatchOption, nat_le};
-ghost use Rattle.neigh_run.specs.Control.{HostState, host_start};
+ghost use Rattle.neigh_run.specs.Control.{HostState, host_start, turn};
 ghost use Rattle.neigh_run.specs.Merged.{id_for, control_op, control_ops, sender_ops, merged};
 ghost use Rattle.neigh_run.specs.Plan.{IsSendList, IsPacket, IsWithinLimits, control_at};
 ghost use Rattle.nb_base.specs.declared.op.Op.TheVariants as op;
@@ -9,6 +9,7 @@ ghost use Rattle.neigh_plan.specs.Merging.{lines_of, insert_lines, AreByMoment};
 ghost use Rattle.std.specs.Option.{option_to_list};
 ghost use Rattle.std.specs.List.{AllByRecursion};
 
+use heard_frames::operation;
 use nb_base::{ControlItem, Items, Line, Moment, Op, OpId, Plan, SendItem};
 use std::alloc::{AllocError, Global};
 
@@ -80,7 +81,7 @@ fn merge(alloc: Global, left: &[Line], right: &[Line]) -> Result<Items<Line>, Al
 /// The number of a participant's item: items are counted from 1.
 fn id_of(participant: u32, place: usize) -> OpId
     requires participant { participant ≤ 16 }
-    requires place { place < 131072 }
+    requires place { place < 393216 }
     ensures { result ≡ id_for participant (place + 1) }
 {
     OpId(32 * (place as u64 + 1) + u64::from(participant))
@@ -127,29 +128,56 @@ fn sender_lines(
     Ok(lines)
 }
 
-/// Appends the operation's line, where the item has one. It is the same in every state of the host.
-fn take_control(lines: &mut Items<Line>, place: usize, item: &ControlItem) -> Result<(), AllocError>
-    requires { place < 131072 }
-    ensures { (plan : Plan) (state : HostState) → OnOk result (lines.new ≡ lines.old ++ lines_of (option_to_list (control_op plan state (place + 1) item.now))) }
+/// The operation of an item of participant 0, where it has one. It is the same in every state of the host.
+pub(crate) fn operation_of(plan: &Plan, item: &ControlItem) -> Option<Op>
+    ensures { (state : HostState) (n : ℕ) → (turn plan.now state n item.now).operation ≡ result }
 {
     match item {
-        ControlItem::Neigh { at, op } => lines.push(line_of(*at, id_of(0, place), *op)),
-        _ => Ok(()),
+        ControlItem::Frame { bytes, .. } => operation(&plan.host, bytes.as_slice()),
+        ControlItem::Neigh { op, .. } => Some(*op),
+        ControlItem::Proxy { .. } => None,
+    }
+}
+
+/// The moment of an item of participant 0.
+pub(crate) fn moment_of(item: &ControlItem) -> Moment
+    ensures { result ≡ control_at item.now }
+{
+    match item {
+        ControlItem::Frame { at, .. } => *at,
+        ControlItem::Neigh { at, .. } => *at,
+        ControlItem::Proxy { at, .. } => *at,
+    }
+}
+
+/// Appends the operation's line, where the item has one.
+fn take_control(
+    lines: &mut Items<Line>,
+    plan: &Plan,
+    place: usize,
+    item: &ControlItem,
+) -> Result<(), AllocError>
+    requires { place < 393216 }
+    ensures { (state : HostState) → OnOk result (lines.new ≡ lines.old ++ lines_of (option_to_list (control_op plan.now state (place + 1) item.now))) }
+{
+    match operation_of(plan, item) {
+        Some(op) => lines.push(line_of(moment_of(item), id_of(0, place), op)),
+        None => Ok(()),
     }
 }
 
 #[tactic(auto, using(crate::proofs::Participants::control_ops_more))]
 fn control_lines(
     alloc: Global,
-    _plan: &Plan,
+    plan: &Plan,
     items: &[ControlItem],
 ) -> Result<Items<Line>, AllocError>
-    requires { length items.now ≤ 131072 }
-    ensures { IfOk result (λ lines. lines ≡ lines_of (control_ops _plan.now host_start 1 items.now)) }
+    requires { length items.now ≤ 393216 }
+    ensures { IfOk result (λ lines. lines ≡ lines_of (control_ops plan.now host_start 1 items.now)) }
 {
     let mut lines = Items::new(alloc);
     for (place, item) in items.iter().enumerate() {
-        take_control(&mut lines, place, item)?;
+        take_control(&mut lines, plan, place, item)?;
     }
     Ok(lines)
 }

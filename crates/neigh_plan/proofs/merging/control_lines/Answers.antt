@@ -10,10 +10,10 @@ use Rattle.neigh_plan.proofs.merging.control_lines.Goals as goal
 
 pub loop-place-preserved : goal.loop-place-preserved
 loop-place-preserved c =
-    let plan = c.args._plan.now in
+    let plan = c.args.plan.now in
     let items = c.args.items.now in
     let place = c.loop-place.place in
     let behind = state_behind plan host_start 1 (take place items) in
-    c.in_ok-take_control.ensures plan behind
+    c.in_ok-take_control.ensures behind
     ∙ (ap (λ (lines : List Line). lines ++ lines_of (option_to_list (control_op plan behind (place + 1) c.index-items-place.result))) c.loop-place.invariant
     ∙ sym (control_ops_more plan items place c.index-items-place.result c.loop-place-test.true c.index-items-place.is))
