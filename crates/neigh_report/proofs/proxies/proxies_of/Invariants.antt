@@ -3,4 +3,4 @@ use Rattle.neigh_run.specs.Control.{proxies_with}
 use Rattle.neigh_report.proofs.proxies.proxies_of.Given as goal
 
 abbrev pub invariant-loop-item : goal.invariant-loop-item
-invariant-loop-item l = l.keys.items ≡ fold proxies_with [] (take l.item-index l.items)
+invariant-loop-item l = l.table.keys ≡ fold proxies_with [] (take l.item-index l.items)
