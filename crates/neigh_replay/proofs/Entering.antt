@@ -30,7 +30,7 @@ use Rattle.neigh_run.specs.Merged.{Entered}
 use Rattle.neigh_run.specs.Inline.{entered_line, ends_own}
 use Rattle.neigh_replay.specs.declared.answers.Answer.{Answer}
 use Rattle.neigh_plan.specs.Inline.{most_lines}
-use Rattle.neigh_replay.specs.Answered.{answer_to, answers_behind, HasEntered}
+use Rattle.neigh_replay.specs.Answered.{answer_to, answers_behind, HasEntered, HasRoom}
 
 -- ---- lines that are no operations
 
@@ -263,7 +263,7 @@ enters_in_bound p lines next to moment operations id o others r (Operation seen 
           omega (arith, one, same)
 
 -- a bucket without room for an operation has as many lines as the line bound allows
-pub no_room : (before : List Line) (line : Line) (old new : Journal) (answers : List Answer) (has needs moment operations : ℕ) (others : Option ℕ)
+no_room : (before : List Line) (line : Line) (old new : Journal) (answers : List Answer) (has needs moment operations : ℕ) (others : Option ℕ)
     → InRange old.params → old.clock ≤ line.at → HasEntered before old answers → line.at ≤ moment → length before < operations
     → Refuses old new (max line.at old.clock) (EntersNext old.params new.lines (max line.at old.clock) (id_of line) line.op others) (JournalFull has needs)
     → most_lines ≤ line_bound old.params operations moment
@@ -294,13 +294,17 @@ next_entered line old new answers more id place r census counted own le same e a
     subst (HasEntered (before ++ line ∷ []) new) (ap (λ (i : OpId). answers ++ (let made : Answer = record { id = i; at = line.at; place = place; reply = r } in made) ∷ []) (sym same) ∙ sym added)
     (entered_next before line old new answers place r own le h (subst (λ (i : OpId). Enters old new line.at i line.op place r) same e) (all_saw old.params old.lines new.lines census counted h.saw along alone))
 
-pub no_room_left : (line : Line) (old new : Journal) (answers : List Answer) (id : OpId) (fail : BucketFail) (has needs : ℕ) (others : Option ℕ)
+-- a bucket with room is never full
+pub never_full : (line : Line) (old new : Journal) (answers : List Answer) (id : OpId) (fail : BucketFail) (has needs : ℕ) (others : Option ℕ)
     → InRange old.params → old.clock ≤ line.at → id ≡ id_of line → fail ≡ JournalFull has needs → Refuses old new (max line.at old.clock) (EntersNext old.params new.lines (max line.at old.clock) id line.op others) fail
-    → (before : List Line) (moment operations : ℕ) → HasEntered before old answers → line.at ≤ moment → length before < operations → most_lines ≤ line_bound old.params operations moment
-no_room_left line old new answers id fail has needs others r le same full refused before moment operations h upto few =
-    no_room before line old new answers has needs moment operations others r le h upto few
+    → HasRoom old answers line → ⊥
+never_full line old new answers id fail has needs others r le same full refused room =
+    let large =
+    no_room room.before line old new answers has needs room.moment room.operations others r le room.entered room.upto room.few
     (subst (λ (i : OpId). Refuses old new (max line.at old.clock) (EntersNext old.params new.lines (max line.at old.clock) i line.op others) (JournalFull has needs)) same
-    (subst (λ (f : BucketFail). Refuses old new (max line.at old.clock) (EntersNext old.params new.lines (max line.at old.clock) id line.op others) f) full refused))
+    (subst (λ (f : BucketFail). Refuses old new (max line.at old.clock) (EntersNext old.params new.lines (max line.at old.clock) id line.op others) f) full refused)) in
+    let below = room.bound in
+    omega (arith, large, below)
 
 -- the others of a bucket that is the whole table hold nothing
 pub alone : (present others : ℕ) → others ≡ present - present → Some others ≡ Some 0

@@ -1,81 +1,174 @@
--- What a script's text gives is what the files give, where one bucket is asked for and no capture.
-use Rattle.std.proofs.Common.{◌≡◌, ℕ, ◌<◌, ◌≤◌, true, false, List, [], length, Option, Some, None, refl, sym, ap, subst}
-use Rattle.std.specs.Prelude.{is_some, IfSome, MatchResult, Result, Ok, Err}
+-- What was read and made of it is what the files give, where one bucket is asked for in the mode `inline`.
+use Rattle.std.proofs.Common.{◌≡◌, ℕ, ◌+◌, ◌<◌, ◌≤◌, min, true, false, List, [], length, Option, Some, None, refl, sym, ap, subst, ◌∙◌, arith}
+use Rattle.std.specs.Prelude.{is_some, unwrap_or, IfSome, MatchResult, Result, Ok, Err}
+use Rattle.std.specs.List.{AllByRecursion}
 use Rattle.nb_base.specs.declared.plan.Mode.{Mode}
-use Rattle.neigh_script.specs.declared.script.Script.{Script}
-use Rattle.neigh_script.specs.Lines.{script_of}
-use Rattle.neigh_run.specs.Plan.{plan_of}
+use Rattle.nb_base.specs.declared.plan.Mode.TheVariants as mode
+use Rattle.nb_base.specs.declared.plan.Plan.{Plan}
 use Rattle.neigh_words.specs.Settings.{Asked}
-use Rattle.neigh_replay.specs.declared.replay.Failure.{Failure}
-use Rattle.neigh_replay.specs.declared.replay.Failure.TheVariants.{Memory, ReadFault, WriteFault, TooLong, Refused, TooLarge, NotBuilt}
-use Rattle.neigh_replay.specs.Verdict.{Report, Held, AreTold, AreRead, IsFile, IsCaptureFile, HavePlan, IsRunIn, Gives, script_long, script_refused, not_replayed, not_asked, report, is_built, script_limit}
+use Rattle.neigh_words.specs.declared.options.Settings.{Settings}
+use Rattle.neigh_plan.specs.Files.{plan_of_files}
+use Rattle.neigh_plan.specs.Inline.{most_lines, plan_bound}
+use Rattle.neigh_replay.specs.declared.failure.File.{File}
+use Rattle.neigh_replay.specs.declared.failure.File.TheVariants.{Script, Capture}
+use Rattle.neigh_replay.specs.declared.failure.Failure.{Failure}
+use Rattle.neigh_replay.specs.declared.failure.Failure.TheVariants.{Memory, ReadFault, WriteFault, TooLong, CaptureRefused, ScriptRefused, TooLarge}
+use Rattle.neigh_replay.specs.Verdict.{Report, Held, AreTold, AreRead, IsFile, IsLongFile, IsCaptureFile, IsToldName, HoldsBytes, HavePlan, IsRunIn, Gives, script_long, capture_long, capture_refused, script_refused, too_large, report, script_limit, capture_limit}
 use Rattle.neigh_replay.specs.Verdict as verdict
-use Rattle.neigh_replay.specs.Replay.{FilesCall, GivesTold}
-use Rattle.neigh_replay.specs.Failures.{IsReportOf, Refuses, Explains}
-use Rattle.neigh_replay.proofs.Verdicts.{no_capture, one_bucket_asked, is_inline_asked}
+use Rattle.neigh_replay.specs.Replay.{FilesCall, files_call, NameFailed, GivesTold, inline_by}
+use Rattle.neigh_replay.specs.Failures.{IsReadAs, FailsToRead, IsCaptureRead, FailsToReadCapture, IsPlanOf, IsReportOf, IsTooLarge, Refuses, Explains}
 
--- what was read is what the name holds, where that is told
-told_text : (o : Option (List ℕ)) (text : List ℕ) → IfSome o (λ all. text ≡ all) → is_some o ≡ true → o ≡ Some text
-told_text (Some all) text e told = ap Some (sym e)
-told_text None text e told = cc
+-- ---- files that were read
 
-are_read : (a : Asked) (held : Held) (text : List ℕ) → is_built a ≡ true → IfSome (held a.script) (λ all. text ≡ all) → length text ≤ script_limit → AreTold a held → AreRead a held text None
-are_read a held text built read short told = record {
-  built = built;
-  script_file = record { is = told_text (held a.script) text read told.script; short = short };
-  capture_file = subst (λ (c : Option (List ℕ)). IsCaptureFile held c None) (sym (no_capture a built)) tt;
-}
+told_file : (o : Option (List ℕ)) (bytes : List ℕ) → IfSome o (λ all. bytes ≡ all) → is_some o ≡ true → o ≡ Some bytes
+told_file (Some all) bytes e told = ap Some (sym e)
+told_file None bytes e told = cc
 
-have_plan : (a : Asked) (held : Held) (text : List ℕ) (script : Script) → AreRead a held text None → (script_of text ≡ Ok script) → HavePlan a held (plan_of script a.window 1)
-have_plan a held text script files read = record {
+told_some : (o : Option (List ℕ)) → HoldsBytes o → is_some o ≡ true
+told_some (Some all) h = refl
+told_some None h = absurd h
+
+script_file : (a : Asked) (held : Held) (text : List ℕ) → IsReadAs held a.script script_limit text → AreTold a held → IsFile held a.script script_limit text
+script_file a held text read told = record { is = told_file (held a.script) text read.0 told.script; short = read.1 }
+
+capture_file : (held : Held) (name capture : Option (List ℕ)) → IsCaptureRead held name capture → IsToldName held name → IsCaptureFile held name capture
+capture_file held None None read told = tt
+capture_file held None (Some bytes) read told = absurd read
+capture_file held (Some name) None read told = absurd read
+capture_file held (Some name) (Some bytes) read told = record { is = told_file (held name) bytes read.0 (told_some (held name) told); short = read.1 }
+
+-- what is asked for is built: one bucket in the mode `inline`
+pub record IsBuilt (a : Asked) : Type 0 where
+  pub one : a.buckets ≡ 1
+  pub inline : a.mode ≡ mode.Inline
+
+-- and so it is by the type of settings
+pub built_by : (s : Settings) → IsBuilt (inline_by s)
+built_by s = record { one = s.one_bucket; inline = refl }
+
+-- both files
+pub record AreFiles (a : Asked) (held : Held) (text : List ℕ) (capture : Option (List ℕ)) : Type 0 where
+  pub built : IsBuilt a
+  pub script : IsReadAs held a.script script_limit text
+  pub captured : IsCaptureRead held a.capture capture
+
+are_read : (a : Asked) (held : Held) (text : List ℕ) (capture : Option (List ℕ)) → AreFiles a held text capture → AreTold a held → AreRead a held text capture
+are_read a held text capture f told = record { script_file = script_file a held text f.script told; capture_file = capture_file held a.capture capture f.captured told.capture }
+
+have_plan : (a : Asked) (held : Held) (text : List ℕ) (capture : Option (List ℕ)) (plan : Plan) → IsBuilt a → AreRead a held text capture → IsPlanOf a.window text capture plan → HavePlan a held plan
+have_plan a held text capture plan built files made = record {
   text = text;
-  capture = None;
+  capture = capture;
   files = files;
-  records = [];
-  captured = refl;
-  script = script;
-  read = read;
-  planned = ap (plan_of script a.window) (sym (one_bucket_asked a files.built));
+  records = made.records;
+  captured = made.captured;
+  script = made.script;
+  read = made.read;
+  planned = made.planned ∙ ap (plan_of_files (unwrap_or capture []) made.records made.script a.window) (sym built.one);
 }
 
--- the report of the script is that of the files
-pub gives_report : (a : Asked) (files : FilesCall) (text result : List ℕ) → is_built a ≡ true → IfSome (files.held a.script) (λ all. text ≡ all) → length text ≤ script_limit → IsReportOf a.window text result → GivesTold a files (Report result)
-gives_report a files text result built read short is told =
-    let h = have_plan a files.held text is.script (are_read a files.held text built read short told) is.read in
-    let r = is.report in
-    let run : IsRunIn a.mode (plan_of is.script a.window 1) r.run = subst (λ (m : Mode). IsRunIn m (plan_of is.script a.window 1) r.run) (sym (is_inline_asked a built)) r.inline in
-    report (plan_of is.script a.window 1) r.run h r.replayed r.bound run r.short r.spelled
+-- ---- what they give
 
--- and so is its refusal
-pub gives_refusal : (a : Asked) (files : FilesCall) (text : List ℕ) (failure : Failure) → is_built a ≡ true → IfSome (files.held a.script) (λ all. text ≡ all) → length text ≤ script_limit → Refuses a.window text failure → Explains a files failure
-gives_refusal a files text Memory built read short h = tt
-gives_refusal a files text ReadFault built read short h = absurd h
-gives_refusal a files text WriteFault built read short h = absurd h
-gives_refusal a files text TooLong built read short h = absurd h
-gives_refusal a files text (Refused line why) built read short h = λ told. script_refused text None [] (are_read a files.held text built read short told) refl h
-gives_refusal a files text TooLarge built read short h = h
-gives_refusal a files text NotBuilt built read short h = λ told. not_replayed (plan_of h.0 a.window 1) (have_plan a files.held text h.0 (are_read a files.held text built read short told) h.1) h.2
+gives_report : (a : Asked) (files : FilesCall) (text result : List ℕ) (capture : Option (List ℕ)) → AreFiles a files.held text capture → IsReportOf a.window text capture result → GivesTold a files (Report result)
+gives_report a files text result capture f is told =
+    let h = have_plan a files.held text capture is.plan f.built (are_read a files.held text capture f told) is.made in
+    let r = is.report_is in
+    let run : IsRunIn a.mode is.plan r.run = subst (λ (m : Mode). IsRunIn m is.plan r.run) (sym f.built.inline) r.inline in
+    report is.plan r.run h r.bound run r.short r.spelled
 
-long_text : (o : Option (List ℕ)) → IfSome o (λ all. script_limit < length all) → is_some o ≡ true → (all : List ℕ) × (o ≡ Some all) × (script_limit < length all)
-long_text (Some all) long told = (all, refl, long)
-long_text None long told = absurd cc
+refused_capture : (a : Asked) (files : FilesCall) (text : List ℕ) (capture : Option (List ℕ)) → AreFiles a files.held text capture → (fail : _) → Refuses a.window text capture (CaptureRefused fail) → GivesTold a files (verdict.CaptureRefused fail)
+refused_capture a files text None f fail h = absurd h
+refused_capture a files text (Some bytes) f fail h = λ told. capture_refused text bytes (are_read a files.held text (Some bytes) f told) h
 
--- a script of more bytes than its limit
-pub gives_too_long : (a : Asked) (held : Held) (name : List ℕ) → name ≡ a.script → is_built a ≡ true → IfSome (held name) (λ all. script_limit < length all) → AreTold a held → Gives a held (verdict.TooLong a.script)
-gives_too_long a held name is built long told =
-    let t = long_text (held a.script) (subst (λ (n : List ℕ). IfSome (held n) (λ all. script_limit < length all)) is long) told.script in
-    script_long built (record { bytes = t.0; is = t.1; long = t.2 })
+-- a capture was read where one is asked for
+no_capture : (held : Held) (name capture : Option (List ℕ)) → IsCaptureRead held name capture → name ≡ None → capture ≡ None
+no_capture held None None read e = refl
+no_capture held None (Some bytes) read e = absurd read
+no_capture held (Some name) capture read e = cc
 
--- what isn't built
-pub gives_not_built : (a : Asked) (held : Held) → is_built a ≡ false → AreTold a held → Gives a held verdict.NotBuilt
-gives_not_built a held e told = not_asked e
+gives_refusal : (a : Asked) (files : FilesCall) (text : List ℕ) (capture : Option (List ℕ)) (failure : Failure) → AreFiles a files.held text capture → Refuses a.window text capture failure → Explains a files failure
+gives_refusal a files text capture Memory f h = tt
+gives_refusal a files text capture (ReadFault file) f h = absurd h
+gives_refusal a files text capture WriteFault f h = absurd h
+gives_refusal a files text capture (TooLong file) f h = absurd h
+gives_refusal a files text capture (CaptureRefused fail) f h = refused_capture a files text capture f fail h
+gives_refusal a files text capture (ScriptRefused line why) f h = λ told. script_refused text capture h.0 (are_read a files.held text capture f told) h.1 h.2
+gives_refusal a files text capture TooLarge f h = (
+  λ told. too_large h.plan (have_plan a files.held text capture h.plan f.built (are_read a files.held text capture f told) h.made.made) h.large,
+  λ alone. (let small = h.made.small (no_capture files.held a.capture capture f.captured alone) in let large = h.large in omega (arith, small, large)),
+)
 
--- what a script's text comes to is what the files come to
-both : (a : Asked) (files : FilesCall) (text : List ℕ) (r : Result (List ℕ) Failure) → is_built a ≡ true → IfSome (files.held a.script) (λ all. text ≡ all) → length text ≤ script_limit
-    → MatchResult r (IsReportOf a.window text) (Refuses a.window text) → MatchResult r (λ report. GivesTold a files (Report report)) (Explains a files)
-both a files text (Ok result) built read short h = gives_report a files text result built read short h
-both a files text (Err failure) built read short h = gives_refusal a files text failure built read short h
+-- what the files come to
+both : (a : Asked) (files : FilesCall) (text : List ℕ) (capture : Option (List ℕ)) (r : Result (List ℕ) Failure) → AreFiles a files.held text capture
+    → MatchResult r (IsReportOf a.window text capture) (Refuses a.window text capture) → MatchResult r (λ report. GivesTold a files (Report report)) (Explains a files)
+both a files text capture (Ok result) f h = gives_report a files text result capture f h
+both a files text capture (Err failure) f h = gives_refusal a files text capture failure f h
 
-pub gives_both : (a : Asked) (files : FilesCall) (name text : List ℕ) (r : Result (List ℕ) Failure) → name ≡ a.script → is_built a ≡ true → IfSome (files.held name) (λ all. text ≡ all) → length text ≤ script_limit
-    → MatchResult r (IsReportOf a.window text) (Refuses a.window text) → MatchResult r (λ report. GivesTold a files (Report report)) (Explains a files)
-gives_both a files name text r is built read short h = both a files text r built (subst (λ (n : List ℕ). IfSome (files.held n) (λ all. text ≡ all)) is read) short h
+same_read : (held mid : Held) (name bytes : List ℕ) (limit : ℕ) → ((other : List ℕ) → mid other ≡ held other) → IsReadAs mid name limit bytes → IsReadAs held name limit bytes
+same_read held mid name bytes limit same read = (subst (λ (o : Option (List ℕ)). IfSome o (λ all. bytes ≡ all)) (same name) read.0, read.1)
+
+same_capture : (held mid : Held) (name capture : Option (List ℕ)) → ((other : List ℕ) → mid other ≡ held other) → IsCaptureRead mid name capture → IsCaptureRead held name capture
+same_capture held mid None None same read = tt
+same_capture held mid None (Some bytes) same read = absurd read
+same_capture held mid (Some name) None same read = absurd read
+same_capture held mid (Some name) (Some bytes) same read = same_read held mid name bytes capture_limit same read
+
+-- the script was read, and then the capture, where one is asked for
+pub gives_both : (a : Asked) (files : FilesCall) (mid : Held) (name text : List ℕ) (capture : Option (List ℕ)) (r : Result (List ℕ) Failure) → name ≡ a.script → IsBuilt a → ((other : List ℕ) → mid other ≡ files.held other)
+    → IsReadAs files.held name script_limit text → IsCaptureRead mid a.capture capture
+    → MatchResult r (IsReportOf a.window text capture) (Refuses a.window text capture) → MatchResult r (λ report. GivesTold a files (Report report)) (Explains a files)
+gives_both a files mid name text capture r is built same script captured h =
+    both a files text capture r
+    (record { built = built; script = subst (λ (n : List ℕ). IsReadAs files.held n script_limit text) is script; captured = same_capture files.held mid a.capture capture same captured }) h
+
+-- ---- what isn't read
+
+long_file : (held : Held) (name : List ℕ) (limit : ℕ) (o : Option (List ℕ)) → held name ≡ o → IfSome o (λ all. limit < length all) → is_some o ≡ true → IsLongFile held name limit
+long_file held name limit (Some all) e long told = record { bytes = all; is = e; long = long }
+long_file held name limit None e long told = absurd cc
+
+-- the script wasn't read
+script_unread : (a : Asked) (files : FilesCall) (failure : Failure) → IsBuilt a → FailsToRead files a.script script_limit Script failure → Explains a files failure
+script_unread a files Memory built h = tt
+script_unread a files (ReadFault file) built h = subst (λ (f : File). Explains a files (ReadFault f)) (sym h.0) (a.script, refl, h.1)
+script_unread a files WriteFault built h = absurd h
+script_unread a files (TooLong file) built h =
+    subst (λ (f : File). Explains a files (TooLong f)) (sym h.0) (a.script, refl, λ told. script_long (long_file files.held a.script script_limit (files.held a.script) refl h.1 told.script))
+script_unread a files (CaptureRefused fail) built h = absurd h
+script_unread a files (ScriptRefused line why) built h = absurd h
+script_unread a files TooLarge built h = absurd h
+
+pub gives_script_unread : (a : Asked) (files : FilesCall) (name : List ℕ) (failure : Failure) → name ≡ a.script → IsBuilt a → FailsToRead files name script_limit Script failure → Explains a files failure
+gives_script_unread a files name failure is built h = script_unread a files failure built (subst (λ (n : List ℕ). FailsToRead files n script_limit Script failure) is h)
+
+-- the capture of this name, which is asked for, wasn't read behind the script
+capture_unread : (a : Asked) (held mid : Held) (before between after : List ℕ → ℕ) (text name : List ℕ) (failure : Failure) → IsBuilt a → ((other : List ℕ) → mid other ≡ held other) → ((other : List ℕ) → before other ≤ between other)
+    → IsReadAs held a.script script_limit text → a.capture ≡ Some name → FailsToRead (files_call mid between after) name capture_limit Capture failure → Explains a (files_call held before after) failure
+capture_unread a held mid before between after text name Memory built same later script asked h = tt
+capture_unread a held mid before between after text name (ReadFault file) built same later script asked h =
+    subst (λ (f : File). Explains a (files_call held before after) (ReadFault f)) (sym h.0) (name, asked, let le = later name in let rose = h.1 in omega (arith, le, rose))
+capture_unread a held mid before between after text name WriteFault built same later script asked h = absurd h
+capture_unread a held mid before between after text name (TooLong file) built same later script asked h =
+    subst (λ (f : File). Explains a (files_call held before after) (TooLong f)) (sym h.0) (
+      name,
+      asked,
+      λ told. capture_long text (script_file a held text script told) asked
+          (long_file held name capture_limit (held name) refl (subst (λ (o : Option (List ℕ)). IfSome o (λ all. capture_limit < length all)) (same name) h.1) (told_some (held name) (subst (IsToldName held) asked told.capture))),
+    )
+capture_unread a held mid before between after text name (CaptureRefused fail) built same later script asked h = absurd h
+capture_unread a held mid before between after text name (ScriptRefused line why) built same later script asked h = absurd h
+capture_unread a held mid before between after text name TooLarge built same later script asked h = absurd h
+
+by_name : (a : Asked) (held mid : Held) (before between after : List ℕ → ℕ) (text : List ℕ) (o : Option (List ℕ)) (failure : Failure) → IsBuilt a → ((other : List ℕ) → mid other ≡ held other) → ((other : List ℕ) → before other ≤ between other)
+    → IsReadAs held a.script script_limit text → a.capture ≡ o → FailsToReadCapture (files_call mid between after) o failure → Explains a (files_call held before after) failure
+by_name a held mid before between after text None failure built same later script asked h = absurd h
+by_name a held mid before between after text (Some name) failure built same later script asked h = capture_unread a held mid before between after text name failure built same later script asked h
+
+pub gives_capture_unread : (a : Asked) (held mid : Held) (before between after : List ℕ → ℕ) (name text : List ℕ) (failure : Failure) → name ≡ a.script → IsBuilt a → ((other : List ℕ) → mid other ≡ held other) → ((other : List ℕ) → before other ≤ between other)
+    → IsReadAs held name script_limit text → FailsToReadCapture (files_call mid between after) a.capture failure → Explains a (files_call held before after) failure
+gives_capture_unread a held mid before between after name text failure is built same later script h =
+    by_name a held mid before between after text a.capture failure built same later (subst (λ (n : List ℕ). IsReadAs held n script_limit text) is script) refl h
+
+-- a failure that is handed on
+pub from_err : {X F : Type 0} (A : X → Type 0) (B : F → Type 0) (r : Result X F) (e f : F) → r ≡ Err e → e ≡ f → B f → MatchResult r A B
+from_err {X = X} {F = F} A B r e f is same h = subst (λ (q : Result X F). MatchResult q A B) (sym is) (subst B (sym same) h)

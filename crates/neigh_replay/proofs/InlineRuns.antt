@@ -2,7 +2,6 @@
 use Rattle.std.proofs.Common.{◌≡◌, ℕ, ◌+◌, ◌*◌, ◌/◌, ◌≤◌, Bool, true, false, if◌then◌else◌, List, [], ◌∷◌, ◌++◌, length, map, Option, Some, None, unwrap_or, refl, sym, ◌∙◌, ap, subst, arith, append_assoc}
 use Rattle.std.specs.Prelude.{filter, ◌==◌, IfSome}
 use Rattle.std.specs.Option.{option_map_or}
-use Rattle.std.specs.List.{AllByRecursion}
 use Rattle.std.proofs.lemmas.Bool.{eq-eqb}
 use Rattle.nb_base.specs.declared.key.Key.{Key}
 use Rattle.nb_base.specs.declared.key.Key.TheVariants.{V4, V6}
@@ -18,10 +17,8 @@ use Rattle.nb_base.specs.Buckets.{bucket_of}
 use Rattle.nb_base.specs.declared.plan.Plan.{Plan}
 use Rattle.nb_base.specs.declared.plan.SendItem.{SendItem}
 use Rattle.nb_base.specs.declared.plan.ControlItem.{ControlItem}
-use Rattle.nb_base.specs.declared.plan.ControlItem.TheVariants as control
 use Rattle.nb_base.specs.declared.host_line.Placed.{Placed}
 use Rattle.nb_base.specs.declared.host_line.HostLine.{HostLine}
-use Rattle.nb_base.specs.declared.host_line.HostLine.TheVariants as host_line
 use Rattle.nb_journal.specs.Keys.{key_of, is_own}
 use Rattle.nb_journal.specs.Fold.{id_of, reply_of, present_count}
 use Rattle.nb_journal.specs.Accounts.{own_lines}
@@ -29,18 +26,19 @@ use Rattle.nb_journal.specs.Lawful.{EachLine, base_of, IsLawful}
 use Rattle.nb_journal.specs.Laws.{Saw}
 use Rattle.nb_journal.proofs.Lines.{each-map}
 use Rattle.nb_bucket.specs.Bucket.{Journal}
-use Rattle.neigh_run.specs.Control.{HostState, Waiting, host_start, turn, waiting_behind, due_by, answer_lines}
+use Rattle.neigh_run.specs.Control.{HostState, host_start, turn}
 use Rattle.neigh_run.specs.Merged.{Entered, id_for, control_ops, sender_ops, goes_to, merged, merged_for}
-use Rattle.neigh_run.specs.Inline.{entered_line, placed_at, placed_from, log_of, logs_of, host_lines_of, IsInlineRun}
+use Rattle.neigh_run.specs.Inline.{entered_line, placed_at, placed_from, places_of, log_of, logs_of, host_lines_of, IsInlineRun}
 use Rattle.neigh_run.specs.Seen.{sees}
 use Rattle.neigh_run.specs.declared.run.Run.{Run}
 use Rattle.neigh_run.proofs.OneBucket.{sees-one}
 use Rattle.neigh_run.specs.Plan.{IsWithinLimits}
 use Rattle.neigh_replay.specs.declared.answers.Answer.{Answer}
 use Rattle.neigh_plan.specs.Merging.{lines_of}
-use Rattle.neigh_replay.specs.Answered.{answer_to, answers_behind, HasEntered, log_by, logs_by, host_lines_by, run_by, IsNumbered}
+use Rattle.neigh_replay.specs.Hosting.{places_by, rest_by, lines_by}
+use Rattle.neigh_replay.specs.Answered.{answer_to, answers_behind, HasEntered, log_by, logs_by, own_answers, run_by}
 use Rattle.neigh_plan.proofs.Orders.{Each, count, entered_again}
-use Rattle.neigh_run.proofs.Numbers.{has_id, is_by, Owns, IsSmall}
+use Rattle.neigh_run.proofs.Numbers.{own_op, has_id, is_by, Owns}
 use Rattle.neigh_plan.proofs.Owners.{IsInOrder, in_order}
 use Rattle.neigh_replay.proofs.Placed.{operations, IsNamedOnce, placed, placed_is}
 
@@ -109,66 +107,53 @@ logs_are plan journal p (items ∷ rest) one named owns =
 
 -- ---- the host's lines
 
-abbrev host : Plan → List Line → Entered → HostLine
-host plan journal x = host_line.Neigh (x.id.0 / 32) x.at (placed plan journal x.id ∷ [])
-
-abbrev hosts : Plan → List Line → List Entered → List HostLine
-hosts plan journal xs = map (host plan journal) xs
-
 one_bucket : (plan : Plan) (journal : List Line) (id : OpId) (o : Op) → plan.buckets ≡ 1 → placed_from 0 plan.buckets plan (journal ∷ []) id o ≡ placed plan journal id ∷ []
 one_bucket plan journal id o one =
     ap (λ (n : ℕ). placed_from 0 n plan (journal ∷ []) id o) one
     ∙ ap (λ (n : ℕ). (if goes_to n 0 o then placed plan journal id ∷ [] else []) ++ []) one
     ∙ ap (λ (b : Bool). (if b then placed plan journal id ∷ [] else []) ++ []) (goes o)
 
--- no answer waits
-abbrev IsStill : HostState → Type 0
-IsStill s = s.waiting ≡ []
+-- the answer to an operation, by where it stands
+abbrev answer_at : Plan → List Line → Entered → Answer
+answer_at plan journal x = record { id = x.id; at = x.at; place = (placed plan journal x.id).place; reply = (placed plan journal x.id).reply }
 
-hosts_are : (plan : Plan) (journal : List Line) (s : HostState) (n : ℕ) (items : List ControlItem) → plan.buckets ≡ 1 → IsStill s → host_lines_of plan (journal ∷ []) s n items ≡ hosts plan journal (control_ops plan s n items)
-hosts_are plan journal s n [] one still = refl
-hosts_are plan journal s n (control.Neigh at o ∷ items) one still =
-    let number : (32 * n + 0) / 32 ≡ n = omega arith in
-    let behind = (turn plan s n (control.Neigh at o)).behind in
-    ap (λ (waiting : List Waiting). (answer_lines (due_by at waiting) ++ host_line.Neigh n at (placed_from 0 plan.buckets plan (journal ∷ []) (id_for 0 n) o) ∷ []) ++ host_lines_of plan (journal ∷ []) behind (n + 1) items) still
-    ∙ ap (λ (ps : List Placed). host_line.Neigh n at ps ∷ host_lines_of plan (journal ∷ []) behind (n + 1) items) (one_bucket plan journal (id_for 0 n) o one)
-    ∙ ap (λ (m : ℕ). host_line.Neigh m at (placed plan journal (id_for 0 n) ∷ []) ∷ host_lines_of plan (journal ∷ []) behind (n + 1) items) (sym number)
-    ∙ ap (λ (hs : List HostLine). host_line.Neigh ((32 * n + 0) / 32) at (placed plan journal (id_for 0 n) ∷ []) ∷ hs) (hosts_are plan journal behind (n + 1) items one (ap (waiting_behind at) still))
-hosts_are plan journal s n (control.Frame at bytes ∷ items) one still =
-    let behind = (turn plan s n (control.Frame at bytes)).behind in
-    ap (λ (waiting : List Waiting). (answer_lines (due_by at waiting) ++ []) ++ host_lines_of plan (journal ∷ []) behind (n + 1) items) still
-    ∙ hosts_are plan journal behind (n + 1) items one (ap (waiting_behind at) still)
-hosts_are plan journal s n (control.Proxy at key add ∷ items) one still =
-    let behind = (turn plan s n (control.Proxy at key add)).behind in
-    ap (λ (waiting : List Waiting). (answer_lines (due_by at waiting) ++ []) ++ host_lines_of plan (journal ∷ []) behind (n + 1) items) still
-    ∙ hosts_are plan journal behind (n + 1) items one (ap (waiting_behind at) still)
+abbrev answers_at : Plan → List Line → List Entered → List Answer
+answers_at plan journal xs = map (answer_at plan journal) xs
 
-hosted : (plan : Plan) (journal past xs : List Line) → IsNamedOnce journal → journal ≡ past ++ xs
-    → host_lines_by (answers_behind plan.params past xs) ≡ hosts plan journal (filter (is_by 0) (operations xs))
-hosted plan journal past [] named e = refl
-hosted plan journal past (x ∷ xs) named e =
-    by_tests (is_own x.op) (is_by 0 (entered_line x)) refl refl (hosted plan journal (past ++ x ∷ []) xs named (e ∙ sym (append_assoc past (x ∷ []) xs))) where
+-- over these answers the host does what the definition says
+hosts_are : (plan : Plan) (journal : List Line) (s : HostState) (n : ℕ) (items : List ControlItem) → plan.buckets ≡ 1 → lines_by plan s n items (answers_at plan journal (control_ops plan s n items)) ≡ host_lines_of plan (journal ∷ []) s n items
+hosts_are plan journal s n [] one = refl
+hosts_are plan journal s n (x ∷ xs) one = by_op (turn plan s n x).operation (hosts_are plan journal (turn plan s n x).behind (n + 1) xs one) where
+  behind : HostState
+  behind = (turn plan s n x).behind
+
+  by_op : (o : Option Op) → lines_by plan behind (n + 1) xs (answers_at plan journal (control_ops plan behind (n + 1) xs)) ≡ host_lines_of plan (journal ∷ []) behind (n + 1) xs
+      → (turn plan s n x).lines (places_by o (answers_at plan journal (own_op x n o ++ control_ops plan behind (n + 1) xs))) ++ lines_by plan behind (n + 1) xs (rest_by o (answers_at plan journal (own_op x n o ++ control_ops plan behind (n + 1) xs)))
+      ≡ (turn plan s n x).lines (places_of plan (journal ∷ []) n o) ++ host_lines_of plan (journal ∷ []) behind (n + 1) xs
+  by_op None rest = ap (λ (ls : List HostLine). (turn plan s n x).lines [] ++ ls) rest
+  by_op (Some o) rest =
+      ap (λ (ls : List HostLine). (turn plan s n x).lines (placed plan journal (id_for 0 n) ∷ []) ++ ls) rest
+      ∙ ap (λ (ps : List Placed). (turn plan s n x).lines ps ++ host_lines_of plan (journal ∷ []) behind (n + 1) xs) (sym (one_bucket plan journal (id_for 0 n) o one))
+
+-- the answers to participant 0 are those to its operations, in their order
+owned : (plan : Plan) (journal past xs : List Line) → IsNamedOnce journal → journal ≡ past ++ xs → own_answers 0 (answers_behind plan.params past xs) ≡ answers_at plan journal (filter (is_by 0) (operations xs))
+owned plan journal past [] named e = refl
+owned plan journal past (x ∷ xs) named e =
+    by_tests (is_own x.op) (is_by 0 (entered_line x)) refl refl (owned plan journal (past ++ x ∷ []) xs named (e ∙ sym (append_assoc past (x ∷ []) xs))) where
       rest : List Answer
       rest = answers_behind plan.params (past ++ x ∷ []) xs
 
-      by_tests : (own mine : Bool) → is_own x.op ≡ own → is_by 0 (entered_line x) ≡ mine → host_lines_by rest ≡ hosts plan journal (filter (is_by 0) (operations xs))
-          → host_lines_by ((if own then answer_to plan.params past x ∷ [] else []) ++ rest) ≡ hosts plan journal (filter (is_by 0) (map entered_line (if own then x ∷ own_lines xs else own_lines xs)))
+      here : is_own x.op ≡ true → answer_to plan.params past x ≡ answer_at plan journal (entered_line x)
+      here own = ap (λ (at : Placed). (let made : Answer = record { id = id_of x; at = x.at; place = at.place; reply = at.reply } in made)) (sym (placed_is plan journal past xs x own named e))
+
+      by_tests : (own mine : Bool) → is_own x.op ≡ own → is_by 0 (entered_line x) ≡ mine → own_answers 0 rest ≡ answers_at plan journal (filter (is_by 0) (operations xs))
+          → own_answers 0 ((if own then answer_to plan.params past x ∷ [] else []) ++ rest) ≡ answers_at plan journal (filter (is_by 0) (map entered_line (if own then x ∷ own_lines xs else own_lines xs)))
       by_tests true true o m same =
           rw m
-          (ap (λ (at : Placed). host_line.Neigh ((id_of x).0 / 32) x.at (at ∷ []) ∷ host_lines_by rest) (sym (placed_is plan journal past xs x o named e))
-          ∙ ap (λ (hs : List HostLine). host plan journal (entered_line x) ∷ hs) same)
+          (ap (λ (a : Answer). a ∷ own_answers 0 rest) (here o)
+          ∙ ap (λ (more : List Answer). answer_at plan journal (entered_line x) ∷ more) same)
       by_tests true false o m same = rw m same
       by_tests false mine o m same = same
-
--- ---- the numbers
-
-numbered : (p : Params) (past xs : List Line) → Each IsSmall (operations xs) → AllByRecursion IsNumbered (answers_behind p past xs)
-numbered p past [] small = tt
-numbered p past (x ∷ xs) small = by_test (is_own x.op) small (λ rest. numbered p (past ++ x ∷ []) xs rest) where
-  by_test : (own : Bool) → Each IsSmall (map entered_line (if own then x ∷ own_lines xs else own_lines xs)) → (Each IsSmall (operations xs) → AllByRecursion IsNumbered (answers_behind p (past ++ x ∷ []) xs))
-      → AllByRecursion IsNumbered ((if own then answer_to p past x ∷ [] else []) ++ answers_behind p (past ++ x ∷ []) xs)
-  by_test true h rest = (h.0, rest h.1)
-  by_test false h rest = rest h
 
 -- ---- the whole run
 
@@ -177,10 +162,6 @@ Made plan bucket answers = HasEntered (lines_of (merged plan)) bucket answers
 
 entered_all : (plan : Plan) (bucket : Journal) (answers : List Answer) → Made plan bucket answers → operations bucket.lines ≡ merged plan
 entered_all plan bucket answers h = h.entered ∙ entered_again (merged plan)
-
-pub numbered_all : (plan : Plan) (bucket : Journal) (answers : List Answer) → IsWithinLimits plan → Made plan bucket answers → AllByRecursion IsNumbered answers
-numbered_all plan bucket answers within h =
-    subst (AllByRecursion IsNumbered) (sym h.answered) (numbered bucket.params [] bucket.lines (subst (Each IsSmall) (sym (entered_all plan bucket answers h)) (in_order plan within).small))
 
 -- a line that saw the entries of its bucket saw the whole table, which is this bucket
 saw_whole : (seen : Option ℕ) (m n : ℕ) → n ≡ m → IfSome seen (λ s. s ≡ m) → IfSome seen (λ s. s ≡ n)
@@ -211,11 +192,13 @@ made_inline plan bucket answers run one within params h is = subst (IsInlineRun 
       ap (logs_by 1 (length plan.senders)) answered
       ∙ logs_are plan bucket.lines 1 plan.senders one named (subst (λ (xs : List Entered). Owns xs 1 plan.senders) (sym entered) order.owns);
   host_lines =
-      ap host_lines_by answered
-      ∙ hosted plan bucket.lines [] bucket.lines named refl
-      ∙ ap (λ (xs : List Entered). hosts plan bucket.lines (filter (is_by 0) xs)) entered
-      ∙ ap (hosts plan bucket.lines) order.control
-      ∙ sym (hosts_are plan bucket.lines host_start 1 plan.control one refl);
+      ap (λ (all : List Answer). lines_by plan host_start 1 plan.control (own_answers 0 all)) answered
+      ∙ ap (lines_by plan host_start 1 plan.control) (
+      owned plan bucket.lines [] bucket.lines named refl
+      ∙ ap (λ (xs : List Entered). answers_at plan bucket.lines (filter (is_by 0) xs)) entered
+      ∙ ap (answers_at plan bucket.lines) order.control
+      )
+      ∙ hosts_are plan bucket.lines host_start 1 plan.control one;
   marks = refl;
 }) where
   order : IsInOrder plan

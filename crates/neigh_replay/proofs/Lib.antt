@@ -1,11 +1,12 @@
 pub mod Verdicts
 mod Replays
 mod Given
+mod Hosting
 mod Entering
 mod Tasks
 mod Placed
 mod Logs
 mod InlineRuns
-mod Steps
+pub mod Steps
 mod Unentered
 pub mod ScriptRuns

@@ -1,19 +1,22 @@
 -- From what the parts of the code give to the whole of a replay.
-use Rattle.std.proofs.Common.{◌≡◌, ◌≢◌, ℕ, true, List, [], ◌∷◌, Option, Some, None, refl, sym, subst, ◌∙◌, inl, inr}
-use Rattle.std.specs.Prelude.{◌==◌}
+use Rattle.std.proofs.Common.{◌≡◌, ◌≢◌, ℕ, true, List, [], ◌∷◌, Option, Some, None, refl, sym, ap, subst, ◌∙◌, inl, inr}
+use Rattle.std.specs.Prelude.{◌==◌, slice_get, unwrap_or}
+use Rattle.std.specs.Option.{option_to_list}
 use Rattle.std.proofs.lemmas.Bool.Decides.{eqb_tells}
-use Rattle.nb_base.specs.declared.plan.Mode.TheVariants as mode
+use Rattle.nb_base.specs.declared.plan.Mode.{Mode}
 use Rattle.nb_base.specs.declared.plan.Plan.{Plan}
-use Rattle.neigh_run.specs.Plan.{is_replayed}
-use Rattle.neigh_words.specs.Settings.{Asked, asked}
-use Rattle.neigh_replay.specs.declared.replay.Failure.{Failure}
-use Rattle.neigh_replay.specs.declared.replay.Failure.TheVariants.{Memory, ReadFault, WriteFault, TooLong, Refused, TooLarge, NotBuilt}
-use Rattle.neigh_replay.specs.Verdict.{Verdict, Report, AreTold, HavePlan, Gives, not_asked, is_built, status_of, instead_of, line_of}
+use Rattle.neigh_words.specs.Settings.{Asked, asked, asked_by}
+use Rattle.neigh_words.specs.declared.options.Settings.{Settings}
+use Rattle.neigh_replay.specs.declared.failure.File.{File}
+use Rattle.neigh_replay.specs.declared.failure.File.TheVariants.{Script, Capture}
+use Rattle.neigh_replay.specs.declared.failure.Failure.{Failure}
+use Rattle.neigh_replay.specs.declared.failure.Failure.TheVariants.{Memory, ReadFault, WriteFault, TooLong, CaptureRefused, ScriptRefused, TooLarge}
+use Rattle.neigh_replay.specs.Verdict.{Verdict, Report, AreTold, HavePlan, Gives, names_of, status_of, instead_of, line_of}
 use Rattle.neigh_replay.specs.Verdict as verdict
-use Rattle.neigh_replay.specs.Status.{IsOneOf, memory_line, usage_line}
-use Rattle.neigh_replay.specs.Replay.{FilesCall, SinkCall, SinkSays, IsUntouched, GivesTold, Shows, IsReplay, IsCommand, NothingFailed, ReplaysAreComplete, ScriptsAreComplete}
-use Rattle.neigh_replay.specs.Failures.{WritesReport, Fails, line_for, status_for}
-use Rattle.neigh_replay.proofs.Verdicts.{one_status, by_plan, plan_status, of_plan_report, replayed_status}
+use Rattle.neigh_replay.specs.Status.{IsOneOf, memory_line, read_line, usage_line}
+use Rattle.neigh_replay.specs.Replay.{FilesCall, SinkCall, SinkSays, IsUntouched, NameFailed, GivesTold, Shows, IsReplay, IsCommand, NothingFailed, ReplaysAreComplete, ScriptsAreComplete, inline_by}
+use Rattle.neigh_replay.specs.Failures.{name_in, OfFile, WritesReport, Fails, line_for, status_for}
+use Rattle.neigh_replay.proofs.Verdicts.{one_status, by_plan, plan_status, of_plan_report, small_status}
 
 -- ---- statuses
 
@@ -28,7 +31,6 @@ first_is_one n others = rw (same_number n) refl
 
 -- no verdict has the status of a failure outside, nor that of other words
 not_memory : (v : Verdict) → status_of v ≡ 1 → ⊥
-not_memory verdict.NotBuilt e = cc
 not_memory (verdict.TooLong name) e = cc
 not_memory (verdict.CaptureRefused fail) e = cc
 not_memory (verdict.ScriptRefused line why) e = cc
@@ -36,7 +38,6 @@ not_memory verdict.TooLarge e = cc
 not_memory (Report text) e = cc
 
 not_usage : (v : Verdict) → status_of v ≡ 2 → ⊥
-not_usage verdict.NotBuilt e = cc
 not_usage (verdict.TooLong name) e = cc
 not_usage (verdict.CaptureRefused fail) e = cc
 not_usage (verdict.ScriptRefused line why) e = cc
@@ -44,7 +45,6 @@ not_usage verdict.TooLarge e = cc
 not_usage (Report text) e = cc
 
 not_read : (v : Verdict) → status_of v ≡ 3 → ⊥
-not_read verdict.NotBuilt e = cc
 not_read (verdict.TooLong name) e = cc
 not_read (verdict.CaptureRefused fail) e = cc
 not_read (verdict.ScriptRefused line why) e = cc
@@ -52,7 +52,6 @@ not_read verdict.TooLarge e = cc
 not_read (Report text) e = cc
 
 not_write : (v : Verdict) → status_of v ≡ 6 → ⊥
-not_write verdict.NotBuilt e = cc
 not_write (verdict.TooLong name) e = cc
 not_write (verdict.CaptureRefused fail) e = cc
 not_write (verdict.ScriptRefused line why) e = cc
@@ -61,7 +60,6 @@ not_write (Report text) e = cc
 
 -- want of memory and a file that can't be read may stand for every verdict
 memory_instead : (v : Verdict) → IsOneOf (status_of v ∷ instead_of v) 1
-memory_instead verdict.NotBuilt = refl
 memory_instead (verdict.TooLong name) = refl
 memory_instead (verdict.CaptureRefused fail) = refl
 memory_instead (verdict.ScriptRefused line why) = refl
@@ -69,7 +67,6 @@ memory_instead verdict.TooLarge = refl
 memory_instead (Report text) = refl
 
 read_instead : (v : Verdict) → IsOneOf (status_of v ∷ instead_of v) 3
-read_instead verdict.NotBuilt = refl
 read_instead (verdict.TooLong name) = refl
 read_instead (verdict.CaptureRefused fail) = refl
 read_instead (verdict.ScriptRefused line why) = refl
@@ -78,7 +75,6 @@ read_instead (Report text) = refl
 
 -- and an output that can't be written for a report
 write_instead : (v : Verdict) → 0 ≡ status_of v → IsOneOf (status_of v ∷ instead_of v) 6
-write_instead verdict.NotBuilt e = absurd cc
 write_instead (verdict.TooLong name) e = absurd cc
 write_instead (verdict.CaptureRefused fail) e = absurd cc
 write_instead (verdict.ScriptRefused line why) e = absurd cc
@@ -87,14 +83,14 @@ write_instead (Report text) e = refl
 
 -- ---- replays
 
-pub decided_replay : (a : Asked) (files : FilesCall) (out err : SinkCall) (v : Verdict) → (status_of v ≢ 7) → GivesTold a files v → Shows v out err → IsReplay a files out err (status_of v)
+pub decided_replay : (a : Asked) (files : FilesCall) (out err : SinkCall) (v : Verdict) → (a.capture ≡ None → status_of v ≢ 7) → GivesTold a files v → Shows v out err → IsReplay a files out err (status_of v)
 decided_replay a files out err v small given shown = record {
   no_memory = λ e. absurd (not_memory v e);
   cannot_read = λ e. absurd (not_read v e);
   cannot_write = λ e. absurd (not_write v e);
-  never_too_large = λ none. small;
+  never_too_large = small;
   decided = λ e f g. record { verdict = v; given = given; answered = refl; shown = shown };
-  always = λ told w gives. subst (λ (n : ℕ). IsOneOf (n ∷ instead_of w) (status_of v)) (one_status a files.held v w (given told) gives) (first_is_one (status_of v) (instead_of w));
+  always = λ told w gives. subst (λ (n : ℕ). IsOneOf (n ∷ instead_of w) (status_of v)) (one_status a files.held v w told (given told) gives) (first_is_one (status_of v) (instead_of w));
 }
 
 pub memory_replay : (a : Asked) (files : FilesCall) (out err : SinkCall) → IsUntouched out → SinkSays err memory_line → IsReplay a files out err 1
@@ -108,79 +104,93 @@ memory_replay a files out err untouched said = record {
 }
 
 pub written_replay : (a : Asked) (files : FilesCall) (out err : SinkCall) → WritesReport a files out → IsUntouched err → IsReplay a files out err 0
-written_replay a files out err w quiet = decided_replay a files out err (Report w.text) (λ e. cc) w.given (w.written, quiet)
+written_replay a files out err w quiet = decided_replay a files out err (Report w.text) (λ alone e. cc) w.given (w.written, quiet)
 
-pub failed_replay : (a : Asked) (files : FilesCall) (out err : SinkCall) (failure : Failure) → Fails a files out failure → SinkSays err (line_for a.script failure) → IsReplay a files out err (status_for failure)
-failed_replay a files out err Memory h said = memory_replay a files out err h.1 said
-failed_replay a files out err ReadFault h said = record {
+-- the place of a file among those that are asked for
+abbrev place_for : File → ℕ
+place_for Script = 0
+place_for Capture = 1
+
+asked_at : (a : Asked) (file : File) (name : List ℕ) → name_in a file ≡ Some name → slice_get (names_of a) (place_for file) ≡ Some name
+asked_at a Script name e = e
+asked_at a Capture name e = rw e refl
+
+-- a line that names the file
+said_of : (err : SinkCall) (line : List ℕ → List ℕ) (o : Option (List ℕ)) (name : List ℕ) → o ≡ Some name → SinkSays err (line (unwrap_or o [])) → SinkSays err (line name)
+said_of err line o name e said = subst (λ (p : Option (List ℕ)). SinkSays err (line (unwrap_or p []))) e said
+
+unread : (a : Asked) (files : FilesCall) (out err : SinkCall) (file : File) → OfFile a file (NameFailed files) → IsUntouched out → SinkSays err (read_line (unwrap_or (name_in a file) [])) → IsReplay a files out err 3
+unread a files out err file (name, is, failed) untouched said = record {
   no_memory = λ e. absurd cc;
-  cannot_read = λ e. record { place = 0; name = a.script; asked = refl; failed = h.0; untouched = h.1; said = said };
+  cannot_read = λ e. record { place = place_for file; name = name; asked = asked_at a file name is; failed = failed; untouched = untouched; said = said_of err read_line (name_in a file) name is said };
   cannot_write = λ e. absurd cc;
   never_too_large = λ none e. cc;
   decided = λ e f g. absurd (f refl);
   always = λ told w gives. read_instead w;
 }
+
+too_long : (a : Asked) (files : FilesCall) (out err : SinkCall) (file : File) → OfFile a file (λ name. GivesTold a files (verdict.TooLong name)) → IsUntouched out → SinkSays err (line_of (verdict.TooLong (unwrap_or (name_in a file) []))) → IsReplay a files out err 8
+too_long a files out err file (name, is, given) untouched said =
+    decided_replay a files out err (verdict.TooLong name) (λ alone e. cc) given (untouched, said_of err (λ n. line_of (verdict.TooLong n)) (name_in a file) name is said)
+
+pub failed_replay : (a : Asked) (files : FilesCall) (out err : SinkCall) (failure : Failure) → Fails a files out failure → SinkSays err (line_for a failure) → IsReplay a files out err (status_for failure)
+failed_replay a files out err Memory h said = memory_replay a files out err h.1 said
+failed_replay a files out err (ReadFault file) h said = unread a files out err file h.0 h.1 said
 failed_replay a files out err WriteFault h said = record {
   no_memory = λ e. absurd cc;
   cannot_read = λ e. absurd cc;
   cannot_write = λ e. record { text = h.text; given = h.given; failed = h.failed; count = h.count; part = h.part; said = said };
   never_too_large = λ none e. cc;
   decided = λ e f g. absurd (g refl);
-  always = λ told w gives. write_instead w (one_status a files.held (Report h.text) w (h.given told) gives);
+  always = λ told w gives. write_instead w (one_status a files.held (Report h.text) w told (h.given told) gives);
 }
-failed_replay a files out err TooLong h said = decided_replay a files out err (verdict.TooLong a.script) (λ e. cc) h.0 (h.1, said)
-failed_replay a files out err (Refused line why) h said = decided_replay a files out err (verdict.ScriptRefused line why) (λ e. cc) h.0 (h.1, said)
-failed_replay a files out err TooLarge h said = absurd h.0
-failed_replay a files out err NotBuilt h said = decided_replay a files out err verdict.NotBuilt (λ e. cc) h.0 (h.1, said)
+failed_replay a files out err (TooLong file) h said = too_long a files out err file h.0 h.1 said
+failed_replay a files out err (CaptureRefused fail) h said = decided_replay a files out err (verdict.CaptureRefused fail) (λ alone e. cc) h.0 (h.1, said)
+failed_replay a files out err (ScriptRefused line why) h said = decided_replay a files out err (verdict.ScriptRefused line why) (λ alone e. cc) h.0 (h.1, said)
+failed_replay a files out err TooLarge h said = decided_replay a files out err verdict.TooLarge (λ alone. absurd (h.0.1 alone)) h.0.0 (h.1, said)
 
 -- no failure but a failed write touched the output
 untouched_by : (a : Asked) (files : FilesCall) (out : SinkCall) (failure : Failure) → (failure ≡ WriteFault → ⊥) → Fails a files out failure → IsUntouched out
 untouched_by a files out Memory other h = h.1
-untouched_by a files out ReadFault other h = h.1
+untouched_by a files out (ReadFault file) other h = h.1
 untouched_by a files out WriteFault other h = absurd (other refl)
-untouched_by a files out TooLong other h = h.1
-untouched_by a files out (Refused line why) other h = h.1
+untouched_by a files out (TooLong file) other h = h.1
+untouched_by a files out (CaptureRefused fail) other h = h.1
+untouched_by a files out (ScriptRefused line why) other h = h.1
 untouched_by a files out TooLarge other h = h.1
-untouched_by a files out NotBuilt other h = h.1
 
 -- what is said instead of a failure
 pub said_instead : (a : Asked) (files : FilesCall) (out : SinkCall) (failure said : Failure) → (said ≢ Memory → said ≡ failure) → (failure ≡ WriteFault → said ≡ WriteFault) → Fails a files out failure → Fails a files out said
 said_instead a files out failure Memory same kept h = (tt, untouched_by a files out failure (λ e. let both : Memory ≡ WriteFault = kept e in cc) h)
-said_instead a files out failure ReadFault same kept h = subst (Fails a files out) (sym (same (λ e. cc))) h
+said_instead a files out failure (ReadFault file) same kept h = subst (Fails a files out) (sym (same (λ e. cc))) h
 said_instead a files out failure WriteFault same kept h = subst (Fails a files out) (sym (same (λ e. cc))) h
-said_instead a files out failure TooLong same kept h = subst (Fails a files out) (sym (same (λ e. cc))) h
-said_instead a files out failure (Refused line why) same kept h = subst (Fails a files out) (sym (same (λ e. cc))) h
+said_instead a files out failure (TooLong file) same kept h = subst (Fails a files out) (sym (same (λ e. cc))) h
+said_instead a files out failure (CaptureRefused fail) same kept h = subst (Fails a files out) (sym (same (λ e. cc))) h
+said_instead a files out failure (ScriptRefused line why) same kept h = subst (Fails a files out) (sym (same (λ e. cc))) h
 said_instead a files out failure TooLarge same kept h = subst (Fails a files out) (sym (same (λ e. cc))) h
-said_instead a files out failure NotBuilt same kept h = subst (Fails a files out) (sym (same (λ e. cc))) h
-
--- the mode `threads` isn't built
-pub threads_replay : (a : Asked) (files : FilesCall) (out err : SinkCall) → a.mode ≡ mode.Threads → IsUntouched out → SinkSays err (line_of verdict.NotBuilt) → IsReplay a files out err 9
-threads_replay a files out err threads untouched said = decided_replay a files out err verdict.NotBuilt (λ e. cc) (λ told. not_asked (rw threads refl)) (untouched, said)
 
 -- ---- completeness
 
 -- a status is 1, 3 or 6, or it is another
-complete : (a : Asked) (files : FilesCall) (out err : SinkCall) (status : ℕ) (plan : Plan) → IsReplay a files out err status → AreTold a files.held → HavePlan a files.held plan → is_replayed plan ≡ true
+complete : (a : Asked) (files : FilesCall) (out err : SinkCall) (status : ℕ) (plan : Plan) → IsReplay a files out err status → AreTold a files.held → HavePlan a files.held plan
     → (status ≡ by_plan plan → status ≡ 0) → NothingFailed a files out → IsOneOf (0 ∷ 1 ∷ []) status
-complete a files out err status plan replay told have replayed zero quiet =
+complete a files out err status plan replay told have zero quiet =
     elim (eqb_tells status 1) [
       | inl one ↦ subst (IsOneOf (0 ∷ 1 ∷ [])) (sym one.1) refl
       | inr a1 ↦ elim (eqb_tells status 3) [
         | inl three ↦ absurd (let f = replay.cannot_read three.1 in quiet.reading f.place f.name f.asked f.failed)
         | inr a3 ↦ elim (eqb_tells status 6) [
           | inl six ↦ absurd (quiet.writing (replay.cannot_write six.1).failed)
-          | inr a6 ↦ subst (IsOneOf (0 ∷ 1 ∷ [])) (sym (zero (let d = replay.decided a1.1 a3.1 a6.1 in d.answered ∙ plan_status a files.held d.verdict plan (d.given told) have))) refl
+          | inr a6 ↦ subst (IsOneOf (0 ∷ 1 ∷ [])) (sym (zero (let d = replay.decided a1.1 a3.1 a6.1 in d.answered ∙ plan_status a files.held d.verdict plan told (d.given told) have))) refl
         ]
       ]
     ]
 
 pub replays_complete : ReplaysAreComplete
-replays_complete a files out err status plan replay told have replayed bound quiet =
-    complete a files out err status plan replay told have replayed (λ e. e ∙ of_plan_report plan replayed bound) quiet
+replays_complete a files out err status plan replay told have bound quiet = complete a files out err status plan replay told have (λ e. e ∙ of_plan_report plan bound) quiet
 
 pub scripts_complete : ScriptsAreComplete
-scripts_complete a files out err status plan replay alone told have replayed quiet =
-    complete a files out err status plan replay told have replayed (λ e. replayed_status plan status replayed e (replay.never_too_large alone)) quiet
+scripts_complete a files out err status plan replay alone told have quiet = complete a files out err status plan replay told have (λ e. small_status plan status e (replay.never_too_large alone)) quiet
 
 -- ---- the command
 
@@ -219,3 +229,9 @@ command_replays words a files out err status e replay = record {
   usage_memory = λ none one. absurd (let both : ◌≡◌ {A = Option Asked} None (Some a) = sym none ∙ e in cc);
   replays = λ b eb. let same : a ≡ b = (let both : ◌≡◌ {A = Option Asked} (Some a) (Some b) = sym e ∙ eb in cc) in subst (λ (x : Asked). IsReplay x files out err status) same replay;
 }
+
+-- the settings' own mode is `inline`
+pub settings_replay : (words : List (List ℕ)) (s : Settings) (files : FilesCall) (out err : SinkCall) (status : ℕ) → asked words ≡ Some (asked_by s) → IsReplay (inline_by s) files out err status → IsCommand words files out err status
+settings_replay words s files out err status e replay =
+    command_replays words (asked_by s) files out err status e
+    (subst (λ (m : Mode). IsReplay (record (asked_by s) { mode = m }) files out err status) (sym s.inline) replay)

@@ -1,6 +1,6 @@
 -- The inline run of a script's plan: what its report and its fates ask of it.
-use Rattle.std.proofs.Common.{◌≡◌, ◌∙◌, ℕ, ◌+◌, ◌*◌, ◌<◌, ◌≤◌, ◌^◌, Bool, true, false, ◌&&◌, not, List, [], ◌∷◌, length, refl, sym, ap, subst, arith}
-use Rattle.std.specs.Prelude.{sum_by}
+use Rattle.std.proofs.Common.{◌≡◌, ◌∙◌, ℕ, ◌+◌, ◌*◌, ◌<◌, ◌≤◌, ◌^◌, Bool, true, false, ◌&&◌, not, List, [], ◌∷◌, ◌++◌, length, Option, Some, None, refl, sym, ap, subst, arith}
+use Rattle.std.specs.Prelude.{sum_by, unwrap_or, Result, Ok, Err, MatchResult}
 use Rattle.std.specs.List.{list_all, list_any}
 use Rattle.std.proofs.lemmas.Bool.{and_parts}
 use Rattle.std.proofs.lemmas.List.{length-map}
@@ -12,22 +12,75 @@ use Rattle.nb_base.specs.declared.plan.ControlItem.{ControlItem}
 use Rattle.nb_base.specs.declared.plan.ControlItem.TheVariants as control
 use Rattle.nb_journal.specs.Keys.{is_own, is_send, may_be_asked}
 use Rattle.neigh_script.specs.declared.script.Script.{Script}
+use Rattle.neigh_script.specs.Lines.{script_of}
 use Rattle.neigh_script.specs.Limits as limits
 use Rattle.neigh_run.specs.declared.run.Run.{Run}
-use Rattle.neigh_run.specs.Inline.{IsInlineRun, journal_at}
+use Rattle.neigh_run.specs.Inline.{IsInlineRun}
 use Rattle.neigh_run.specs.Control.{HostState, host_start, turn}
 use Rattle.neigh_run.specs.Merged.{Entered, control_ops, is_sending}
 use Rattle.neigh_run.specs.Plan.{IsWithinLimits, AreSendLists, send_at, plan_of}
 use Rattle.neigh_run.specs.Report.{sent_count, fast_count, dropped_count, waiting_count}
 use Rattle.neigh_run.proofs.InlineFates.{inline_fates}
-use Rattle.neigh_plan.specs.Inline.{most_lines, is_given_op, has_given_ops}
+use Rattle.neigh_plan.specs.Inline.{most_lines, plan_bound, is_given_op, has_given_ops, IsEnterable}
+use Rattle.neigh_plan.specs.Files.{plan_of_files}
+use Rattle.pcap_records.specs.declared.capture.Rec.{Rec}
+use Rattle.pcap_records.specs.Capture.{AreBounded}
 use Rattle.neigh_plan.proofs.ScriptLimits.{one_bucket}
-use Rattle.neigh_plan.proofs.ScriptBounds.{script_params, script_upto, script_given}
-use Rattle.neigh_replay.proofs.Steps.{HasText, run_has_text}
+use Rattle.neigh_plan.proofs.ScriptBounds.{script_given, script_bound}
+use Rattle.neigh_plan.proofs.FileBounds.{files_enterable}
+use Rattle.neigh_run.proofs.Numbers.{own_op}
+use Rattle.neigh_replay.specs.declared.failure.Failure.{Failure}
+use Rattle.neigh_replay.specs.declared.failure.Failure.TheVariants.{Memory, ReadFault, WriteFault, TooLong, CaptureRefused, ScriptRefused, TooLarge}
+use Rattle.neigh_replay.specs.Verdict.{HasRecords}
+use Rattle.neigh_replay.specs.Failures.{RefusesCapture, RefusesScript, IsFilesPlan, IsPlansReport, RefusesPlan, IsReportOf, Refuses}
 
-pub has_text : (script : Script) (window : ℕ) (plan : Plan) (run : Run) → plan ≡ plan_of script window 1 → limits.IsWithinLimits script → IsWithinLimits plan → IsInlineRun plan run → length (journal_at run.journals 0) ≤ most_lines → HasText run
-has_text script window plan run is within plan_within inline short =
-    run_has_text (plan_of script window 1) run (script_params script window 1 within) (subst IsWithinLimits is plan_within) (one_bucket script window) (script_upto script window 1 within) (script_given script window 1 within) (subst (λ (p : Plan). IsInlineRun p run) is inline) short
+-- ---- how the parts meet
+
+small_alone : (script : Script) (window : ℕ) (capture : Option (List ℕ)) (records : List Rec) → limits.IsWithinLimits script → length script.items ≤ 131_072 → HasRecords capture records → capture ≡ None
+    → plan_bound (plan_of_files (unwrap_or capture []) records script window 1) < most_lines
+small_alone script window None records within few h e = subst (λ (rs : List Rec). plan_bound (plan_of_files [] rs script window 1) < most_lines) (sym h) (script_bound script window within few)
+small_alone script window (Some bytes) records within few h e = cc
+
+-- the plan of what the files hold
+pub files_plan : (window : ℕ) (text : List ℕ) (capture : Option (List ℕ)) (records : List Rec) (script : Script) (plan : Plan) → HasRecords capture records → AreBounded (length (unwrap_or capture [])) records
+    → script_of text ≡ Ok script → limits.IsWithinLimits script → length script.items ≤ 131_072 → plan ≡ plan_of_files (unwrap_or capture []) records script window 1 → IsFilesPlan window text capture plan
+files_plan window text capture records script plan captured bounded read within few is = record {
+  made = record { records = records; captured = captured; script = script; read = read; planned = is };
+  enterable = subst IsEnterable (sym is) (files_enterable (unwrap_or capture []) records script window within few bounded);
+  small = λ none. subst (λ (p : Plan). plan_bound p < most_lines) (sym is) (small_alone script window capture records within few captured none);
+}
+
+-- what refuses the capture refuses both
+pub capture_refuses : (window : ℕ) (text : List ℕ) (capture : Option (List ℕ)) (failure : Failure) → RefusesCapture capture failure → Refuses window text capture failure
+capture_refuses window text capture Memory h = tt
+capture_refuses window text capture (ReadFault file) h = absurd h
+capture_refuses window text capture WriteFault h = absurd h
+capture_refuses window text capture (TooLong file) h = absurd h
+capture_refuses window text capture (CaptureRefused fail) h = h
+capture_refuses window text capture (ScriptRefused line why) h = absurd h
+capture_refuses window text capture TooLarge h = absurd h
+
+-- and so does what refuses the script, behind a capture with records
+pub script_refuses : (window : ℕ) (text : List ℕ) (capture : Option (List ℕ)) (records : List Rec) (failure : Failure) → HasRecords capture records → RefusesScript text failure → Refuses window text capture failure
+script_refuses window text capture records Memory captured h = tt
+script_refuses window text capture records (ReadFault file) captured h = absurd h
+script_refuses window text capture records WriteFault captured h = absurd h
+script_refuses window text capture records (TooLong file) captured h = absurd h
+script_refuses window text capture records (CaptureRefused fail) captured h = absurd h
+script_refuses window text capture records (ScriptRefused line why) captured h = (records, captured, h)
+script_refuses window text capture records TooLarge captured h = absurd h
+
+-- what their plan comes to is what they come to
+pub plan_gives : (window : ℕ) (text : List ℕ) (capture : Option (List ℕ)) (plan : Plan) (r : Result (List ℕ) Failure) → IsFilesPlan window text capture plan
+    → MatchResult r (IsPlansReport plan) (RefusesPlan plan) → MatchResult r (IsReportOf window text capture) (Refuses window text capture)
+plan_gives window text capture plan (Ok report) is h = record { plan = plan; made = is.made; report_is = h }
+plan_gives window text capture plan (Err Memory) is h = tt
+plan_gives window text capture plan (Err (ReadFault file)) is h = absurd h
+plan_gives window text capture plan (Err WriteFault) is h = absurd h
+plan_gives window text capture plan (Err (TooLong file)) is h = absurd h
+plan_gives window text capture plan (Err (CaptureRefused fail)) is h = absurd h
+plan_gives window text capture plan (Err (ScriptRefused line why)) is h = absurd h
+plan_gives window text capture plan (Err TooLarge) is h = record { plan = plan; made = is; large = h }
 
 -- ---- how many packets
 
@@ -45,7 +98,13 @@ quiet plan s n (control.Neigh at o ∷ items) h =
     let behind = (turn plan s n (control.Neigh at o)).behind in
     let parts = and_parts (is_given_op o) (list_all (λ (x : Entered). is_given_op x.op) (control_ops plan behind (n + 1) items)) h in
     rw (given_none o parts.0) (quiet plan behind (n + 1) items parts.1)
-quiet plan s n (control.Frame at bytes ∷ items) h = quiet plan (turn plan s n (control.Frame at bytes)).behind (n + 1) items h
+quiet plan s n (control.Frame at bytes ∷ items) h = by_op (turn plan s n (control.Frame at bytes)).operation h (λ all. quiet plan (turn plan s n (control.Frame at bytes)).behind (n + 1) items all) where
+  behind : HostState
+  behind = (turn plan s n (control.Frame at bytes)).behind
+
+  by_op : (o : Option Op) → list_all (λ (x : Entered). is_given_op x.op) (own_op (control.Frame at bytes) n o ++ control_ops plan behind (n + 1) items) ≡ true → (list_all (λ (x : Entered). is_given_op x.op) (control_ops plan behind (n + 1) items) ≡ true → list_any is_sending items ≡ false) → list_any is_sending items ≡ false
+  by_op None all rest = rest all
+  by_op (Some o) all rest = rest (and_parts (is_given_op o) (list_all (λ (x : Entered). is_given_op x.op) (control_ops plan behind (n + 1) items)) all).1
 quiet plan s n (control.Proxy at key add ∷ items) h = quiet plan (turn plan s n (control.Proxy at key add)).behind (n + 1) items h
 
 still : (plan : Plan) → has_given_ops plan ≡ true → list_any is_sending plan.control ≡ false

@@ -15,7 +15,7 @@ use Rattle.nb_journal.proofs.Stepped.{orderly_stepped}
 use Rattle.neigh_run.specs.Inline.{ends_own, entered_line, journal_at, IsInlineJournal, AreInlineJournals, IsInlineRun}
 use Rattle.neigh_run.specs.declared.run.Run.{Run}
 use Rattle.neigh_run.specs.Plan.{IsWithinLimits}
-use Rattle.neigh_plan.specs.Inline.{most_lines, last_item_at, has_given_ops}
+use Rattle.neigh_plan.specs.Inline.{most_lines, last_item_at, has_given_ops, IsEnterable}
 use Rattle.neigh_plan.proofs.Orders.{Each}
 use Rattle.neigh_replay.proofs.Placed.{operations}
 use Rattle.neigh_replay.proofs.Tasks.{IsUpTo, IsTaken, early_merged, taken_merged}
@@ -65,11 +65,11 @@ one_journal plan all [] within one le given long h few = absurd (omega (arith, l
 one_journal plan all (journal ∷ []) within one le given long h few = record { few = (omega (arith, few), tt); steps = (journal_steps plan all journal within one le given h.0, tt) }
 one_journal plan all (journal ∷ other ∷ more) within one le given long h few = absurd (omega (arith, long))
 
-pub run_has_text : (plan : Plan) (run : Run) → InRange plan.params → IsWithinLimits plan → plan.buckets ≡ 1 → last_item_at plan ≤ greatest → has_given_ops plan ≡ true → IsInlineRun plan run → length (journal_at run.journals 0) ≤ most_lines → HasText run
-run_has_text plan run r within one le given inline few =
-    let has = one_journal plan run.journals run.journals within one le given (inline.buckets ∙ one) inline.journals few in
+pub run_has_text : (plan : Plan) (run : Run) → IsEnterable plan → IsInlineRun plan run → length (journal_at run.journals 0) ≤ most_lines → HasText run
+run_has_text plan run e inline few =
+    let has = one_journal plan run.journals run.journals e.within e.one_bucket e.moments e.operations (inline.buckets ∙ e.one_bucket) inline.journals few in
     record {
-      params = subst (λ (p : Plan). InRange p.params) (sym inline.plan) r;
+      params = subst (λ (p : Plan). InRange p.params) (sym inline.plan) e.params;
       few = has.few;
       steps = subst (λ (p : Plan). AllByRecursion (IsStepped p.params) run.journals) (sym inline.plan) has.steps;
     }

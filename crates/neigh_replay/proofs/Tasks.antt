@@ -1,6 +1,6 @@
 -- The operations of a plan in merged order are such as a bucket takes: early enough, own, with states that may be given, and by moment.
 use Rattle.std.proofs.Common.{◌≡◌, ℕ, zero, suc, ◌+◌, ◌<◌, ◌≤◌, true, List, [], ◌∷◌, ◌++◌, length, map, take, get_or, Option, Some, None, refl, sym, ◌∙◌, ap, subst, arith}
-use Rattle.std.specs.Prelude.{◌&&◌, not, nat_le, flat_map, Result, Err}
+use Rattle.std.specs.Prelude.{◌&&◌, not, nat_le, flat_map}
 use Rattle.std.specs.List.{list_all, AllByRecursion}
 use Rattle.std.proofs.lemmas.Bool.{and_parts}
 use Rattle.std.proofs.lemmas.List.{length-map}
@@ -17,10 +17,9 @@ use Rattle.nb_journal.specs.Accounts.{line_bound}
 use Rattle.neigh_run.specs.Control.{HostState, host_start, turn}
 use Rattle.neigh_run.specs.Merged.{Entered, control_ops, sender_ops, senders_ops, merged}
 use Rattle.neigh_run.specs.Plan.{RisesFrom, IsPacket, AreSendLists, IsWithinLimits, control_at, send_at}
-use Rattle.neigh_replay.specs.declared.fail.ReplayFail.{ReplayFail}
 use Rattle.neigh_plan.specs.Inline.{most_lines, greatest_of, last_item_at, is_given_op, has_given_ops, plan_bound}
 use Rattle.neigh_plan.specs.Merging.{line_of, lines_of, line_at}
-use Rattle.neigh_replay.specs.Answered.{IsTask}
+use Rattle.neigh_replay.specs.Answered.{IsTask, LineIsUpTo, AreInBound}
 use Rattle.nb_journal.proofs.Tests.{and_both, le_to}
 use Rattle.neigh_run.proofs.Numbers.{own_op}
 use Rattle.neigh_plan.proofs.Orders.{Each, each_append, each_all}
@@ -66,6 +65,11 @@ early_merged plan =
     each_all (IsUpTo (last_item_at plan)) [] (control_ops plan host_start 1 plan.control ++ senders_ops 1 plan.senders) tt
     (each_append (IsUpTo (last_item_at plan)) (control_ops plan host_start 1 plan.control) (senders_ops 1 plan.senders) (early_control plan host_start 1 (last_item_at plan) plan.control left) (early_senders 1 (last_item_at plan) plan.senders right))
 
+-- nor does an item of participant 0
+pub control_early : (plan : Plan) → greatest_of (map control_at plan.control) ≤ last_item_at plan
+unfolding last_item_at
+control_early plan = greatest-left (map control_at plan.control) (flat_map (map send_at) plan.senders)
+
 -- ---- operations
 
 -- an operation that a bucket takes
@@ -104,21 +108,29 @@ tasks_of m (x ∷ xs) le early taken = let at = early.0 in (record { now = omega
 pub tasks_merged : (plan : Plan) → IsWithinLimits plan → last_item_at plan ≤ greatest → has_given_ops plan ≡ true → AllByRecursion IsTask (lines_of (merged plan))
 tasks_merged plan within le h = tasks_of (last_item_at plan) (merged plan) le (early_merged plan) (taken_merged plan within h)
 
--- a line no later than a moment
-abbrev pub LineIsUpTo : ℕ → Line → Type 0
-LineIsUpTo m line = line.at ≤ m
-
 early_lines : (m : ℕ) (xs : List Entered) → Each (IsUpTo m) xs → AllByRecursion (LineIsUpTo m) (lines_of xs)
 early_lines m [] early = tt
 early_lines m (x ∷ xs) early = (early.0, early_lines m xs early.1)
 
-pub upto_merged : (plan : Plan) → AllByRecursion (LineIsUpTo (last_item_at plan)) (lines_of (merged plan))
+upto_merged : (plan : Plan) → AllByRecursion (LineIsUpTo (last_item_at plan)) (lines_of (merged plan))
 upto_merged plan = early_lines (last_item_at plan) (merged plan) (early_merged plan)
 
 -- the line bound of the lines is the plan's
-pub bound_is : (plan : Plan) → line_bound plan.params (length (lines_of (merged plan))) (last_item_at plan) ≡ plan_bound plan
+bound_is : (plan : Plan) → line_bound plan.params (length (lines_of (merged plan))) (last_item_at plan) ≡ plan_bound plan
 unfolding plan_bound
 bound_is plan = ap (λ (n : ℕ). line_bound plan.params n (last_item_at plan)) (length-map (merged plan) line_of)
+
+-- what is entered has a line bound below 2^22 where the plan has
+pub in_bound : (plan : Plan) (params : Params) (lines : List Line) → params ≡ plan.params → lines ≡ lines_of (merged plan) → plan_bound plan < most_lines → AreInBound params lines
+in_bound plan params lines e f lt = record {
+  moment = last_item_at plan;
+  upto = subst (AllByRecursion (LineIsUpTo (last_item_at plan))) (sym f) (upto_merged plan);
+  bound = subst (λ (n : ℕ). n < most_lines) (sym (
+      ap (λ (p : Params). line_bound p (length lines) (last_item_at plan)) e
+      ∙ ap (λ (ls : List Line). line_bound plan.params (length ls) (last_item_at plan)) f
+      ∙ bound_is plan
+      )) lt;
+}
 
 -- ---- one after the other
 
@@ -130,11 +142,8 @@ behind_first (x ∷ []) m (suc i) line h lt at = absurd (omega (arith, lt))
 behind_first (x ∷ y ∷ ys) m (suc zero) line h lt at = subst (λ (l : Line). x.at ≤ l.at) (sym at) h.1.0
 behind_first (x ∷ y ∷ ys) m (suc (suc i)) line h lt at = behind_first (y ∷ ys) x.at (suc i) line h.1 (omega (arith, lt)) at
 
--- the line bound of what was entered is the plan's
-pub bound_for : (plan : Plan) (params : Params) (lines : List Line) → params ≡ plan.params → lines ≡ lines_of (merged plan) → most_lines ≤ line_bound params (length lines) (last_item_at plan) → most_lines ≤ plan_bound plan
-bound_for plan params lines e f le =
-    subst (λ (n : ℕ). most_lines ≤ n) (ap (λ (p : Params). line_bound p (length lines) (last_item_at plan)) e ∙ ap (λ (ls : List Line). line_bound plan.params (length ls) (last_item_at plan)) f ∙ bound_is plan) le
-
--- a result has one failure
-pub same_fail : {X : Type 0} (r : Result X ReplayFail) (a b : ReplayFail) → r ≡ Err a → r ≡ Err b → a ≡ b
-same_fail {X = X} r a b ea eb = let e : ◌≡◌ {A = Result X ReplayFail} (Err a) (Err b) = sym ea ∙ eb in cc
+-- none is later than the moment that all of them keep
+pub upto_at : (m : ℕ) (lines : List Line) (i : ℕ) (line : Line) → AllByRecursion (LineIsUpTo m) lines → i < length lines → line ≡ get_or lines i line → line.at ≤ m
+upto_at m [] i line h lt at = absurd (omega (arith, lt))
+upto_at m (x ∷ xs) zero line h lt at = subst (LineIsUpTo m) (sym at) h.0
+upto_at m (x ∷ xs) (suc i) line h lt at = upto_at m xs i line h.1 (omega (arith, lt)) at

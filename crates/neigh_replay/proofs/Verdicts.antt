@@ -1,137 +1,186 @@
--- The files give one verdict: two that are given have one status.
-use Rattle.std.proofs.Common.{◌≡◌, ◌≢◌, ℕ, ◌<◌, ◌≤◌, Bool, true, false, List, [], length, Option, Some, None, refl, sym, ap, ◌∙◌}
-use Rattle.std.specs.Prelude.{◌&&◌, ◌==◌, is_none, if◌then◌else◌, nat_le, Result, Ok, Err}
+-- Two verdicts that the files give have one status.
+use Rattle.std.proofs.Common.{◌≡◌, ◌≢◌, ℕ, zero, suc, ◌<◌, ◌≤◌, Bool, true, false, if◌then◌else◌, List, [], ◌∷◌, length, get_or, Option, Some, None, refl, sym, ◌∙◌, ap, subst, arith}
+use Rattle.std.specs.Prelude.{◌&&◌, ◌==◌, nat_le, is_some, unwrap_or, Result, Ok, Err}
+use Rattle.std.specs.List.{AllByRecursion}
 use Rattle.std.proofs.lemmas.Bool.{and_parts, eqb-true, lt-leb}
 use Rattle.nb_journal.proofs.Tests.{le_to}
 use Rattle.nb_base.specs.declared.plan.Mode.{Mode}
 use Rattle.nb_base.specs.declared.plan.Mode.TheVariants as mode
 use Rattle.nb_base.specs.declared.plan.Plan.{Plan}
 use Rattle.pcap_records.specs.declared.capture.Rec.{Rec}
+use Rattle.pcap_records.specs.declared.fail.CaptureFail.{CaptureFail}
+use Rattle.pcap_records.specs.Capture.{IsCapture, IsRefusal}
+use Rattle.pcap_records.proofs.Unique.{one_capture, capture_or_refusal}
 use Rattle.neigh_script.specs.declared.script.Script.{Script}
 use Rattle.neigh_script.specs.declared.why.ScriptFail.{ScriptFail}
 use Rattle.neigh_script.specs.Lines.{script_of}
-use Rattle.neigh_run.specs.Plan.{plan_of, is_replayed}
 use Rattle.neigh_words.specs.Settings.{Asked}
 use Rattle.neigh_plan.specs.Inline.{most_lines, plan_bound}
 use Rattle.neigh_plan.specs.Files.{plan_of_files}
-use Rattle.neigh_replay.specs.Verdict.{Verdict, Held, Gives, not_asked, script_long, capture_long, capture_refused, script_refused, not_replayed, too_large, report, IsCaptureFile, HasRecords, HavePlan, is_inline, is_built, script_limit, status_of}
+use Rattle.neigh_replay.specs.Verdict.{Verdict, Held, Gives, script_long, capture_long, capture_refused, script_refused, too_large, report, IsFile, IsLongFile, IsCaptureFile, IsToldName, HoldsBytes, AreTold, AreRead, HasRecords, HavePlan, script_limit, capture_limit, status_of}
 
-is_nothing : {A : Type 0} (o : Option A) → is_none o ≡ true → o ≡ None
-is_nothing None e = refl
-is_nothing (Some x) e = cc
-
-built_parts : (a : Asked) → is_built a ≡ true → (is_inline a.mode ≡ true) × ((a.buckets == 1) ≡ true) × (is_none a.capture ≡ true)
-built_parts a e =
-    let last = and_parts (is_inline a.mode && a.buckets == 1) (is_none a.capture) e in
-    let first = and_parts (is_inline a.mode) (a.buckets == 1) last.0 in
-    (first.0, first.1, last.1)
-
--- no capture is built
-pub no_capture : (a : Asked) → is_built a ≡ true → a.capture ≡ None
-no_capture a e = is_nothing a.capture (built_parts a e).2
-
-pub one_bucket_asked : (a : Asked) → is_built a ≡ true → a.buckets ≡ 1
-one_bucket_asked a e = eqb-true a.buckets 1 (built_parts a e).1
-
-inline_mode : (m : Mode) → is_inline m ≡ true → m ≡ mode.Inline
-inline_mode mode.Inline e = refl
-inline_mode mode.Threads e = cc
-
-pub is_inline_asked : (a : Asked) → is_built a ≡ true → a.mode ≡ mode.Inline
-is_inline_asked a e = inline_mode a.mode (built_parts a e).0
-
--- ---- the status by computing, where no capture is asked for
+-- ---- the status by computing, from the records of the capture where it isn't refused
 
 abbrev pub by_plan : Plan → ℕ
-by_plan plan = if is_replayed plan then (if nat_le most_lines (plan_bound plan) then 7 else 0) else 9
+by_plan plan = if nat_le most_lines (plan_bound plan) then 7 else 0
 
-abbrev by_script : ℕ → Result Script ScriptFail → ℕ
-by_script window (Ok script) = by_plan (plan_of script window 1)
-by_script window (Err fail) = 5
+abbrev by_script : Asked → List ℕ → List Rec → Result Script ScriptFail → ℕ
+by_script a bytes records (Ok script) = by_plan (plan_of_files bytes records script a.window a.buckets)
+by_script a bytes records (Err fail) = 5
 
-abbrev by_text : ℕ → ℕ → Option (List ℕ) → ℕ
-by_text limit window None = 1
-by_text limit window (Some text) = if nat_le (length text) limit then by_script window (script_of text) else 8
+abbrev by_records : Asked → List ℕ → List ℕ → Option (List Rec) → ℕ
+by_records a text bytes None = 4
+by_records a text bytes (Some records) = by_script a bytes records (script_of text)
 
-abbrev given_status : Asked → Held → ℕ
-given_status a held = if is_built a then by_text script_limit a.window (held a.script) else 9
+-- by what the capture holds, where one is asked for
+abbrev by_capture : ℕ → Asked → List ℕ → Option (List Rec) → Option (List ℕ) → ℕ
+by_capture limit a text r None = 1
+by_capture limit a text r (Some bytes) = if nat_le (length bytes) limit then by_records a text bytes r else 8
 
-of_plan_unreplayed : (plan : Plan) → is_replayed plan ≡ false → by_plan plan ≡ 9
-of_plan_unreplayed plan e = rw e refl
+abbrev by_name : ℕ → Asked → Held → List ℕ → Option (List Rec) → Option (List ℕ) → ℕ
+by_name limit a held text r None = by_records a text [] r
+by_name limit a held text r (Some name) = by_capture limit a text r (held name)
 
-of_plan_large : (plan : Plan) → is_replayed plan ≡ true → most_lines ≤ plan_bound plan → by_plan plan ≡ 7
-of_plan_large plan e le = rw (e, le_to most_lines (plan_bound plan) le) refl
+-- by what the script holds
+abbrev by_text : ℕ → ℕ → Asked → Held → Option (List Rec) → Option (List ℕ) → ℕ
+by_text limit most a held r None = 1
+by_text limit most a held r (Some text) = if nat_le (length text) limit then by_name most a held text r a.capture else 8
 
-pub of_plan_report : (plan : Plan) → is_replayed plan ≡ true → plan_bound plan < most_lines → by_plan plan ≡ 0
-of_plan_report plan e lt = rw (e, lt-leb most_lines (plan_bound plan) lt) refl
+abbrev given_status : Asked → Held → Option (List Rec) → ℕ
+given_status a held r = by_text script_limit capture_limit a held r (held a.script)
 
--- a script within its limit
-of_text : (limit window : ℕ) (o : Option (List ℕ)) (text : List ℕ) → o ≡ Some text → length text ≤ limit → by_text limit window o ≡ by_script window (script_of text)
-of_text limit window o text e le = rw (e, le_to (length text) limit le) refl
+of_plan_large : (plan : Plan) → most_lines ≤ plan_bound plan → by_plan plan ≡ 7
+of_plan_large plan le = rw (le_to most_lines (plan_bound plan) le) refl
 
-of_long_text : (limit window : ℕ) (o : Option (List ℕ)) (text : List ℕ) → o ≡ Some text → limit < length text → by_text limit window o ≡ 8
-of_long_text limit window o text e lt = rw (e, lt-leb (length text) limit lt) refl
+pub of_plan_report : (plan : Plan) → plan_bound plan < most_lines → by_plan plan ≡ 0
+of_plan_report plan lt = rw (lt-leb most_lines (plan_bound plan) lt) refl
 
-of_built : (a : Asked) (held : Held) → is_built a ≡ true → given_status a held ≡ by_text script_limit a.window (held a.script)
-of_built a held e = rw e refl
+of_text : (limit most : ℕ) (a : Asked) (held : Held) (r : Option (List Rec)) (o : Option (List ℕ)) (text : List ℕ) → o ≡ Some text → length text ≤ limit → by_text limit most a held r o ≡ by_name most a held text r a.capture
+of_text limit most a held r o text e le = rw (e, le_to (length text) limit le) refl
 
--- ---- without a capture
+of_long_text : (limit most : ℕ) (a : Asked) (held : Held) (r : Option (List Rec)) (o : Option (List ℕ)) (text : List ℕ) → o ≡ Some text → limit < length text → by_text limit most a held r o ≡ 8
+of_long_text limit most a held r o text e lt = rw (e, lt-leb (length text) limit lt) refl
 
-no_bytes : (held : Held) (o bytes : Option (List ℕ)) → o ≡ None → IsCaptureFile held o bytes → bytes ≡ None
-no_bytes held None None e h = refl
-no_bytes held None (Some bytes) e h = absurd h
-no_bytes held (Some name) bytes e h = cc
+of_bytes : (limit : ℕ) (a : Asked) (text : List ℕ) (r : Option (List Rec)) (o : Option (List ℕ)) (bytes : List ℕ) → o ≡ Some bytes → length bytes ≤ limit → by_capture limit a text r o ≡ by_records a text bytes r
+of_bytes limit a text r o bytes e le = rw (e, le_to (length bytes) limit le) refl
 
-no_records : (bytes : Option (List ℕ)) (records : List Rec) → bytes ≡ None → HasRecords bytes records → records ≡ []
-no_records None records e h = h
-no_records (Some bytes) records e h = cc
+of_long_bytes : (limit : ℕ) (a : Asked) (text : List ℕ) (r : Option (List Rec)) (o : Option (List ℕ)) (bytes : List ℕ) → o ≡ Some bytes → limit < length bytes → by_capture limit a text r o ≡ 8
+of_long_bytes limit a text r o bytes e lt = rw (e, lt-leb (length bytes) limit lt) refl
 
-plan_alone : (bytes : List ℕ) (records : List Rec) (script : Script) (window buckets : ℕ) → records ≡ [] → buckets ≡ 1 → plan_of_files bytes records script window buckets ≡ plan_of script window 1
-plan_alone bytes records script window buckets none one = rw (none, one) refl
+-- the bytes of the capture that is asked for
+of_name : (most : ℕ) (a : Asked) (held : Held) (text : List ℕ) (r : Option (List Rec)) (name capture : Option (List ℕ)) → most ≡ capture_limit → IsCaptureFile held name capture → by_name most a held text r name ≡ by_records a text (unwrap_or capture []) r
+of_name most a held text r None None is h = refl
+of_name most a held text r None (Some bytes) is h = absurd h
+of_name most a held text r (Some name) None is h = absurd h
+of_name most a held text r (Some name) (Some bytes) is h = of_bytes most a text r (held name) bytes h.is (subst (λ (n : ℕ). length bytes ≤ n) (sym is) h.short)
 
-pub built_plan : (a : Asked) (held : Held) (plan : Plan) → (h : HavePlan a held plan) → plan ≡ plan_of h.script a.window 1
-built_plan a held plan h =
-    h.planned ∙ plan_alone _ h.records h.script a.window a.buckets
-    (no_records h.capture h.records (no_bytes held a.capture h.capture (no_capture a h.files.built) h.files.capture_file) h.captured) (one_bucket_asked a h.files.built)
+of_read : (a : Asked) (held : Held) (text : List ℕ) (capture : Option (List ℕ)) (r : Option (List Rec)) → AreRead a held text capture → given_status a held r ≡ by_records a text (unwrap_or capture []) r
+of_read a held text capture r files =
+    of_text script_limit capture_limit a held r (held a.script) text files.script_file.is files.script_file.short
+    ∙ of_name capture_limit a held text r a.capture capture refl files.capture_file
 
-of_files : (a : Asked) (held : Held) (plan : Plan) → HavePlan a held plan → given_status a held ≡ by_plan plan
-of_files a held plan h =
-    of_built a held h.files.built ∙ (of_text script_limit a.window (held a.script) h.text h.files.script_file.is h.files.script_file.short
-    ∙ (ap (by_script a.window) h.read ∙ ap by_plan (sym (built_plan a held plan h))))
+-- ---- what the capture is
 
-capture_not_built : (a : Asked) (name : List ℕ) → is_built a ≡ true → a.capture ≡ Some name → ⊥
-capture_not_built a name e some = let both : ◌≡◌ {A = Option (List ℕ)} None (Some name) = sym (no_capture a e) ∙ some in cc
+-- the records of the capture, or that it is refused
+abbrev Captured : Option (List ℕ) → Option (List Rec) → Type 0
+Captured capture (Some records) = HasRecords capture records
+Captured None None = ⊥
+Captured (Some bytes) None = (fail : CaptureFail) × IsRefusal bytes fail
 
-no_capture_bytes : (a : Asked) (held : Held) (bytes : List ℕ) → is_built a ≡ true → IsCaptureFile held a.capture (Some bytes) → ⊥
-no_capture_bytes a held bytes e h = let both : ◌≡◌ {A = Option (List ℕ)} (Some bytes) None = no_bytes held a.capture (Some bytes) (no_capture a e) h in cc
+record IsLate (a : Asked) (held : Held) (r : Option (List Rec)) : Type 0 where
+  text : List ℕ
+  capture : Option (List ℕ)
+  files : AreRead a held text capture
+  captured : Captured capture r
 
--- ---- the status that the files give
+-- the status doesn't depend on the capture's records, or these are the capture's
+data Reached (a : Asked) (held : Held) (v : Verdict) : Type 0 where
+  Early : ((r : Option (List Rec)) → given_status a held r ≡ status_of v) → Reached a held v
+  Late : (r : Option (List Rec)) → IsLate a held r → given_status a held r ≡ status_of v → Reached a held v
 
-given : (a : Asked) (held : Held) (v : Verdict) → Gives a held v → given_status a held ≡ status_of v
-given a held v (not_asked e) = rw e refl
-given a held v (script_long e long) = of_built a held e ∙ of_long_text script_limit a.window (held a.script) long.bytes long.is long.long
-given a held v (capture_long {name = name} text e file is long) = absurd (capture_not_built a name e is)
-given a held v (capture_refused text bytes files refusal) = absurd (no_capture_bytes a held bytes files.built files.capture_file)
-given a held v (script_refused text capture records files captured refused) =
-    of_built a held files.built ∙ (of_text script_limit a.window (held a.script) text files.script_file.is files.script_file.short ∙ ap (by_script a.window) refused)
-given a held v (not_replayed plan h e) = of_files a held plan h ∙ of_plan_unreplayed plan e
-given a held v (too_large plan h e le) = of_files a held plan h ∙ of_plan_large plan e le
-given a held v (report plan run h e lt is short spelled) = of_files a held plan h ∙ of_plan_report plan e lt
+have_late : (a : Asked) (held : Held) (plan : Plan) → (h : HavePlan a held plan) → IsLate a held (Some h.records)
+have_late a held plan h = record { text = h.text; capture = h.capture; files = h.files; captured = h.captured }
 
--- two verdicts that the files give have one status
-pub one_status : (a : Asked) (held : Held) (v w : Verdict) → Gives a held v → Gives a held w → status_of v ≡ status_of w
-one_status a held v w gv gw = sym (given a held v gv) ∙ given a held w gw
+of_have : (a : Asked) (held : Held) (plan : Plan) → (h : HavePlan a held plan) → given_status a held (Some h.records) ≡ by_plan plan
+of_have a held plan h =
+    of_read a held h.text h.capture (Some h.records) h.files ∙ ap (by_script a (unwrap_or h.capture []) h.records) h.read ∙ ap by_plan (sym h.planned)
+
+reached : (a : Asked) (held : Held) (v : Verdict) → Gives a held v → Reached a held v
+reached a held v (script_long long) = Early (λ r. of_long_text script_limit capture_limit a held r (held a.script) long.bytes long.is long.long)
+reached a held v (capture_long {name = name} text file is long) =
+    Early (λ r. of_text script_limit capture_limit a held r (held a.script) text file.is file.short ∙ ap (by_name capture_limit a held text r) is
+    ∙ of_long_bytes capture_limit a text r (held name) long.bytes long.is long.long)
+reached a held v (capture_refused {fail = fail} text bytes files refusal) = Late None (record { text = text; capture = Some bytes; files = files; captured = (fail, refusal) }) (of_read a held text (Some bytes) None files)
+reached a held v (script_refused text capture records files captured refused) =
+    Late (Some records) (record { text = text; capture = capture; files = files; captured = captured })
+    (of_read a held text capture (Some records) files ∙ ap (by_script a (unwrap_or capture []) records) refused)
+reached a held v (too_large plan h le) = Late (Some h.records) (have_late a held plan h) (of_have a held plan h ∙ of_plan_large plan le)
+reached a held v (report plan run h lt is short spelled) = Late (Some h.records) (have_late a held plan h) (of_have a held plan h ∙ of_plan_report plan lt)
+
+-- ---- a capture is read in one way
+
+some_is : (x y : List ℕ) (o : Option (List ℕ)) → o ≡ Some x → o ≡ Some y → x ≡ y
+some_is x y o ex ey = let both : ◌≡◌ {A = Option (List ℕ)} (Some x) (Some y) = sym ex ∙ ey in cc
+
+one_file : (held : Held) (name b c : Option (List ℕ)) → IsCaptureFile held name b → IsCaptureFile held name c → b ≡ c
+one_file held None None None h k = refl
+one_file held None None (Some c) h k = absurd k
+one_file held None (Some b) c h k = absurd h
+one_file held (Some name) None c h k = absurd h
+one_file held (Some name) (Some b) None h k = absurd k
+one_file held (Some name) (Some b) (Some c) h k = ap Some (some_is b c (held name) h.is k.is)
+
+at_byte : (bytes : List ℕ) → AllByRecursion (λ (byte : ℕ). byte < 256) bytes → (i : ℕ) → get_or bytes i 0 < 256
+at_byte [] all i = omega arith
+at_byte (x ∷ xs) all zero = all.0
+at_byte (x ∷ xs) all (suc i) = at_byte xs all.1 i
+
+held_bytes : (o : Option (List ℕ)) (bytes : List ℕ) → o ≡ Some bytes → HoldsBytes o → AllByRecursion (λ (byte : ℕ). byte < 256) bytes
+held_bytes None bytes e h = absurd h
+held_bytes (Some all) bytes e h = subst (AllByRecursion (λ (byte : ℕ). byte < 256)) (some_is all bytes (Some all) refl e) h
+
+-- the capture's bytes are bytes
+told_bytes : (held : Held) (name : Option (List ℕ)) (bytes : List ℕ) → IsToldName held name → IsCaptureFile held name (Some bytes) → (i : ℕ) → get_or bytes i 0 < 256
+told_bytes held None bytes told h = absurd h
+told_bytes held (Some name) bytes told h = at_byte bytes (held_bytes (held name) bytes h.is told)
+
+one_reading : (held : Held) (name capture : Option (List ℕ)) (r s : Option (List Rec)) → IsToldName held name → IsCaptureFile held name capture → Captured capture r → Captured capture s → r ≡ s
+one_reading held name None None s told file h k = absurd h
+one_reading held name None (Some xs) None told file h k = absurd k
+one_reading held name None (Some xs) (Some ys) told file h k = ap Some (h ∙ sym k)
+one_reading held name (Some bytes) None None told file h k = refl
+one_reading held name (Some bytes) None (Some ys) told file h k = absurd (capture_or_refusal bytes ys h.0 (told_bytes held name bytes told file) k h.1)
+one_reading held name (Some bytes) (Some xs) None told file h k = absurd (capture_or_refusal bytes xs k.0 (told_bytes held name bytes told file) h k.1)
+one_reading held name (Some bytes) (Some xs) (Some ys) told file h k = ap Some (one_capture bytes xs ys (told_bytes held name bytes told file) h k)
+
+one_late : (a : Asked) (held : Held) (r s : Option (List Rec)) → AreTold a held → IsLate a held r → IsLate a held s → r ≡ s
+one_late a held r s told h k =
+    one_reading held a.capture h.capture r s told.capture h.files.capture_file h.captured
+    (subst (λ (c : Option (List ℕ)). Captured c s) (sym (one_file held a.capture h.capture k.capture h.files.capture_file k.files.capture_file)) k.captured)
+
+-- ---- two verdicts
+
+agree : (a : Asked) (held : Held) (v w : Verdict) → AreTold a held → Reached a held v → Reached a held w → status_of v ≡ status_of w
+agree a held v w told (Early e) (Early f) = sym (e None) ∙ f None
+agree a held v w told (Early e) (Late r late f) = sym (e r) ∙ f
+agree a held v w told (Late r late e) (Early f) = sym e ∙ f r
+agree a held v w told (Late r h e) (Late s k f) = sym e ∙ ap (given_status a held) (one_late a held r s told h k) ∙ f
+
+-- two verdicts that told files give have one status
+pub one_status : (a : Asked) (held : Held) (v w : Verdict) → AreTold a held → Gives a held v → Gives a held w → status_of v ≡ status_of w
+one_status a held v w told gv gw = agree a held v w told (reached a held v gv) (reached a held w gw)
+
+plan_agrees : (a : Asked) (held : Held) (v : Verdict) (plan : Plan) → AreTold a held → Reached a held v → (h : HavePlan a held plan) → status_of v ≡ by_plan plan
+plan_agrees a held v plan told (Early e) h = sym (e (Some h.records)) ∙ of_have a held plan h
+plan_agrees a held v plan told (Late r late e) h = sym e ∙ ap (given_status a held) (one_late a held r (Some h.records) told late (have_late a held plan h)) ∙ of_have a held plan h
 
 -- the status where the files have a plan
-pub plan_status : (a : Asked) (held : Held) (v : Verdict) (plan : Plan) → Gives a held v → HavePlan a held plan → status_of v ≡ by_plan plan
-plan_status a held v plan gives have = sym (given a held v gives) ∙ of_files a held plan have
+pub plan_status : (a : Asked) (held : Held) (v : Verdict) (plan : Plan) → AreTold a held → Gives a held v → HavePlan a held plan → status_of v ≡ by_plan plan
+plan_status a held v plan told gives have = plan_agrees a held v plan told (reached a held v gives) have
 
--- a plan that is replayed and isn't too large has a report
-pub replayed_status : (plan : Plan) (status : ℕ) → is_replayed plan ≡ true → status ≡ by_plan plan → status ≢ 7 → status ≡ 0
-replayed_status plan status replayed e small = by_test (nat_le most_lines (plan_bound plan)) (e ∙ whole) where
-  whole : by_plan plan ≡ (if nat_le most_lines (plan_bound plan) then 7 else 0)
-  whole = rw replayed refl
-
+-- a plan that isn't too large has a report
+pub small_status : (plan : Plan) (status : ℕ) → status ≡ by_plan plan → status ≢ 7 → status ≡ 0
+small_status plan status e small = by_test (nat_le most_lines (plan_bound plan)) e where
   by_test : (t : Bool) → status ≡ (if t then 7 else 0) → status ≡ 0
   by_test true h = absurd (small h)
   by_test false h = h

@@ -1,5 +1,6 @@
 -- What a journal says of the operations that were entered into it, and the run that is made of that.
-use Rattle.std.specs.Prelude.{ℕ, zero, suc, ◌+◌, ◌<◌, ◌^◌, ◌/◌, ◌%◌, ◌≡◌, ◌≤◌, Bool, true, ◌==◌, if◌then◌else◌, List, [], ◌∷◌, ◌++◌, map, flat_map, length, unwrap_or}
+use Rattle.std.specs.Prelude.{ℕ, zero, suc, ◌+◌, ◌<◌, ◌%◌, ◌≡◌, ◌≤◌, Bool, true, ◌==◌, if◌then◌else◌, List, [], ◌∷◌, ◌++◌, map, flat_map, filter, length, unwrap_or}
+use Rattle.std.specs.List.{AllByRecursion}
 use Rattle.nb_base.specs.declared.line.Line.{Line}
 use Rattle.nb_base.specs.declared.line.Reply.TheVariants as reply
 use Rattle.nb_base.specs.declared.outcome.Why.TheVariants as why
@@ -8,18 +9,18 @@ use Rattle.nb_base.specs.declared.outcome.Outcome.TheVariants as outcome
 use Rattle.nb_base.specs.declared.params.Params.{Params}
 use Rattle.nb_base.specs.declared.plan.Mode.TheVariants as mode
 use Rattle.nb_base.specs.declared.plan.Plan.{Plan}
-use Rattle.nb_base.specs.declared.host_line.HostLine.{HostLine}
-use Rattle.nb_base.specs.declared.host_line.HostLine.TheVariants as host_line
 use Rattle.nud_machine.specs.Asked.{greatest}
 use Rattle.nb_journal.specs.Keys.{is_own, may_be_asked}
 use Rattle.nb_journal.specs.Fold.{id_of, reply_of, present_count}
 use Rattle.nb_journal.specs.Lawful.{EachLine, IsLawful, last_moment}
-use Rattle.nb_journal.specs.Accounts.{own_lines}
+use Rattle.nb_journal.specs.Accounts.{own_lines, line_bound}
 use Rattle.nb_journal.specs.Laws.{Saw}
 use Rattle.nb_bucket.specs.Bucket.{Journal}
 use Rattle.neigh_run.specs.declared.run.Run.{Run}
+use Rattle.neigh_run.specs.Control.{host_start}
 use Rattle.neigh_run.specs.Inline.{entered_line, ends_own}
 use Rattle.neigh_replay.specs.declared.answers.Answer.{Answer}
+use Rattle.neigh_replay.specs.Hosting.{lines_by}
 use Rattle.neigh_plan.specs.Inline.{most_lines}
 
 -- ---- answers
@@ -50,6 +51,28 @@ pub record HasEntered (lines : List Line) (bucket : Journal) (answers : List Ans
   pub saw : EachLine (Saw (present_count bucket.params)) bucket.lines
   pub answered : answers ≡ answers_behind bucket.params [] bucket.lines
 
+-- ---- room
+
+-- a bucket into which some lines were entered, with these answers, has room for one more: the line bound of more operations, up to a moment that isn't before the line's, is below 2^22
+pub record HasRoom (bucket : Journal) (answers : List Answer) (line : Line) : Type 0 where
+  pub before : List Line
+  pub entered : HasEntered before bucket answers
+  pub operations : ℕ
+  pub few : length before < operations
+  pub moment : ℕ
+  pub upto : line.at ≤ moment
+  pub bound : line_bound bucket.params operations moment < most_lines
+
+-- a line no later than a moment
+abbrev pub LineIsUpTo : ℕ → Line → Type 0
+LineIsUpTo moment line = line.at ≤ moment
+
+-- the line bound of these lines is below 2^22
+pub record AreInBound (p : Params) (lines : List Line) : Type 0 where
+  pub moment : ℕ
+  pub upto : AllByRecursion (LineIsUpTo moment) lines
+  pub bound : line_bound p (length lines) moment < most_lines
+
 -- ---- the run
 
 -- the answer is one to this participant
@@ -68,17 +91,9 @@ abbrev pub logs_by : ℕ → ℕ → List Answer → List (List Outcome)
 logs_by p zero answers = []
 logs_by p (suc n) answers = log_by p answers ∷ logs_by (p + 1) n answers
 
--- what the host did at an item of participant 0
-abbrev pub host_line_by : Answer → List HostLine
-host_line_by answer =
-    if is_to 0 answer then host_line.Neigh (answer.id.0 / 32) answer.at (record { bucket = 0; place = answer.place; reply = answer.reply } ∷ []) ∷ [] else []
-
-abbrev pub host_lines_by : List Answer → List HostLine
-host_lines_by answers = flat_map host_line_by answers
-
--- the number of the item is less than 2^32
-abbrev pub IsNumbered : Answer → Type 0
-IsNumbered answer = answer.id.0 < 2 ^ 37
+-- the answers to a participant
+abbrev pub own_answers : ℕ → List Answer → List Answer
+own_answers p answers = filter (is_to p) answers
 
 -- the run of a plan with one bucket, with this journal and these answers
 abbrev pub run_by : Plan → List Line → List Answer → Run
@@ -86,7 +101,7 @@ run_by plan journal answers = record {
   mode = mode.Inline;
   plan = plan;
   journals = journal ∷ [];
-  host_lines = host_lines_by answers;
+  host_lines = lines_by plan host_start 1 plan.control (own_answers 0 answers);
   logs = logs_by 1 (length plan.senders) answers;
   marks = [];
 }

@@ -1,55 +1,140 @@
 -- What the failures of a replay stand for. Nothing here is a definition to believe: it says what the parts of the code give, from which the whole of a replay is proved.
-use Rattle.std.specs.Prelude.{◌≡◌, ℕ, ◌<◌, ◌≤◌, true, false, List, length, take, Ok, Err}
+use Rattle.std.specs.Prelude.{◌≡◌, ℕ, ◌<◌, ◌≤◌, List, [], length, take, Option, Some, None, IfSome, Ok, Err, unwrap_or}
+use Rattle.nb_base.specs.declared.plan.Plan.{Plan}
+use Rattle.pcap_records.specs.declared.capture.Rec.{Rec}
+use Rattle.pcap_records.specs.declared.fail.CaptureFail.{CaptureFail}
+use Rattle.pcap_records.specs.Capture.{IsRefusal}
 use Rattle.neigh_script.specs.declared.script.Script.{Script}
 use Rattle.neigh_script.specs.declared.why.ScriptFail.TheVariants as script_fail
 use Rattle.neigh_script.specs.Lines.{script_of}
 use Rattle.neigh_run.specs.declared.run.Run.{Run}
-use Rattle.neigh_run.specs.Plan.{plan_of, is_replayed}
 use Rattle.neigh_run.specs.Report.{report_text}
 use Rattle.neigh_run.specs.Inline.{IsInlineRun, journal_at}
 use Rattle.neigh_words.specs.Settings.{Asked}
-use Rattle.neigh_plan.specs.Inline.{most_lines, plan_bound}
-use Rattle.neigh_replay.specs.declared.replay.Failure.{Failure}
-use Rattle.neigh_replay.specs.declared.replay.Failure.TheVariants.{Memory, ReadFault, WriteFault, TooLong, Refused, TooLarge, NotBuilt}
-use Rattle.neigh_replay.specs.Verdict.{Verdict, Report, status_of, line_of}
+use Rattle.neigh_plan.specs.Inline.{most_lines, plan_bound, IsEnterable}
+use Rattle.neigh_plan.specs.Files.{plan_of_files}
+use Rattle.neigh_replay.specs.declared.failure.File.{File}
+use Rattle.neigh_replay.specs.declared.failure.File.TheVariants as file
+use Rattle.neigh_replay.specs.declared.failure.Failure.{Failure}
+use Rattle.neigh_replay.specs.declared.failure.Failure.TheVariants.{Memory, ReadFault, WriteFault, TooLong, CaptureRefused, ScriptRefused, TooLarge}
+use Rattle.neigh_replay.specs.Verdict.{Verdict, Report, Held, HasRecords, capture_limit, status_of, line_of}
 use Rattle.neigh_replay.specs.Verdict as verdict
 use Rattle.neigh_replay.specs.Status.{memory_line, read_line, write_line}
 use Rattle.neigh_replay.specs.Replay.{FilesCall, SinkCall, GivesTold, SinkTakes, IsUntouched, SinkFailed, NameFailed}
 
--- ---- of a script's text
+-- ---- of a plan
 
--- the report of the script, whose plan is replayed
-pub record IsScriptsReport (window : ℕ) (script : Script) (text : List ℕ) : Type 0 where
+-- the report of a plan
+pub record IsPlansReport (plan : Plan) (text : List ℕ) : Type 0 where
   pub run : Run
-  pub replayed : is_replayed (plan_of script window 1) ≡ true
-  pub bound : plan_bound (plan_of script window 1) < most_lines
-  pub inline : IsInlineRun (plan_of script window 1) run
+  pub bound : plan_bound plan < most_lines
+  pub inline : IsInlineRun plan run
   pub short : length (journal_at run.journals 0) ≤ most_lines
   pub spelled : text ≡ report_text run
 
-pub record IsReportOf (window : ℕ) (script_text text : List ℕ) : Type 0 where
-  pub script : Script
-  pub read : script_of script_text ≡ Ok script
-  pub report : IsScriptsReport window script text
+-- why a plan has no report
+abbrev pub RefusesPlan : Plan → Failure → Type 0
+RefusesPlan plan Memory = Unit {0}
+RefusesPlan plan TooLarge = most_lines ≤ plan_bound plan
+RefusesPlan plan _ = ⊥
 
--- why a script's text has no report; its plan is never too large
-abbrev pub Refuses : ℕ → List ℕ → Failure → Type 0
-Refuses window text Memory = Unit {0}
-Refuses window text (Refused line why) = script_of text ≡ Err (script_fail.Refused line why)
-Refuses window text NotBuilt = (script : Script) × (script_of text ≡ Ok script) × (is_replayed (plan_of script window 1) ≡ false)
-Refuses window text _ = ⊥
+-- ---- of what the files hold
+
+-- a capture is refused
+abbrev pub IsRefused : Option (List ℕ) → CaptureFail → Type 0
+IsRefused None fail = ⊥
+IsRefused (Some bytes) fail = IsRefusal bytes fail
+
+-- why a capture has no records
+abbrev pub RefusesCapture : Option (List ℕ) → Failure → Type 0
+RefusesCapture capture Memory = Unit {0}
+RefusesCapture capture (CaptureRefused fail) = IsRefused capture fail
+RefusesCapture capture _ = ⊥
+
+abbrev pub IsScriptOf : List ℕ → Script → Type 0
+IsScriptOf text script = script_of text ≡ Ok script
+
+-- why a text is no script
+abbrev pub RefusesScript : List ℕ → Failure → Type 0
+RefusesScript text Memory = Unit {0}
+RefusesScript text (ScriptRefused line why) = script_of text ≡ Err (script_fail.Refused line why)
+RefusesScript text _ = ⊥
+
+-- the plan of a script's text, and of a capture where there is one
+pub record IsPlanOf (window : ℕ) (text : List ℕ) (capture : Option (List ℕ)) (plan : Plan) : Type 0 where
+  pub records : List Rec
+  pub captured : HasRecords capture records
+  pub script : Script
+  pub read : script_of text ≡ Ok script
+  pub planned : plan ≡ plan_of_files (unwrap_or capture []) records script window 1
+
+-- its operations go into a bucket, and without a capture it isn't too large
+pub record IsFilesPlan (window : ℕ) (text : List ℕ) (capture : Option (List ℕ)) (plan : Plan) : Type 0 where
+  pub made : IsPlanOf window text capture plan
+  pub enterable : IsEnterable plan
+  pub small : capture ≡ None → plan_bound plan < most_lines
+
+pub record IsReportOf (window : ℕ) (text : List ℕ) (capture : Option (List ℕ)) (report : List ℕ) : Type 0 where
+  pub plan : Plan
+  pub made : IsPlanOf window text capture plan
+  pub report_is : IsPlansReport plan report
+
+-- the plan's line bound is too great
+pub record IsTooLarge (window : ℕ) (text : List ℕ) (capture : Option (List ℕ)) : Type 0 where
+  pub plan : Plan
+  pub made : IsFilesPlan window text capture plan
+  pub large : most_lines ≤ plan_bound plan
+
+-- why they have no report
+abbrev pub Refuses : ℕ → List ℕ → Option (List ℕ) → Failure → Type 0
+Refuses window text capture Memory = Unit {0}
+Refuses window text capture (CaptureRefused fail) = IsRefused capture fail
+Refuses window text capture (ScriptRefused line why) = (records : List Rec) × HasRecords capture records × (script_of text ≡ Err (script_fail.Refused line why))
+Refuses window text capture TooLarge = IsTooLarge window text capture
+Refuses window text capture _ = ⊥
+
+-- ---- of reading
+
+-- what was read is what the name holds, where that is told, and within the limit
+abbrev pub IsReadAs : Held → List ℕ → ℕ → List ℕ → Type 0
+IsReadAs held name limit bytes = IfSome (held name) (λ all. bytes ≡ all) × (length bytes ≤ limit)
+
+-- why a file isn't read
+abbrev pub FailsToRead : FilesCall → List ℕ → ℕ → File → Failure → Type 0
+FailsToRead files name limit which Memory = Unit {0}
+FailsToRead files name limit which (ReadFault other) = (other ≡ which) × NameFailed files name
+FailsToRead files name limit which (TooLong other) = (other ≡ which) × IfSome (files.held name) (λ all. limit < length all)
+FailsToRead files name limit which _ = ⊥
+
+abbrev pub IsCaptureRead : Held → Option (List ℕ) → Option (List ℕ) → Type 0
+IsCaptureRead held None None = Unit {0}
+IsCaptureRead held (Some name) (Some bytes) = IsReadAs held name capture_limit bytes
+IsCaptureRead held _ _ = ⊥
+
+abbrev pub FailsToReadCapture : FilesCall → Option (List ℕ) → Failure → Type 0
+FailsToReadCapture files None failure = ⊥
+FailsToReadCapture files (Some name) failure = FailsToRead files name capture_limit file.Capture failure
 
 -- ---- of the files
 
--- why the files have no report; the plan of a script alone is never too large
+-- the name of a file that is asked for
+abbrev pub name_in : Asked → File → Option (List ℕ)
+name_in a file.Script = Some a.script
+name_in a file.Capture = a.capture
+
+-- something of a file that is asked for
+abbrev pub OfFile : Asked → File → (List ℕ → Type 0) → Type 0
+OfFile a which P = (name : List ℕ) × (name_in a which ≡ Some name) × P name
+
+-- why the files have no report
 abbrev pub Explains : Asked → FilesCall → Failure → Type 0
 Explains a files Memory = Unit {0}
-Explains a files ReadFault = NameFailed files a.script
+Explains a files (ReadFault which) = OfFile a which (NameFailed files)
 Explains a files WriteFault = ⊥
-Explains a files TooLong = GivesTold a files (verdict.TooLong a.script)
-Explains a files (Refused line why) = GivesTold a files (verdict.ScriptRefused line why)
-Explains a files TooLarge = ⊥
-Explains a files NotBuilt = GivesTold a files verdict.NotBuilt
+Explains a files (TooLong which) = OfFile a which (λ name. GivesTold a files (verdict.TooLong name))
+Explains a files (CaptureRefused fail) = GivesTold a files (verdict.CaptureRefused fail)
+Explains a files (ScriptRefused line why) = GivesTold a files (verdict.ScriptRefused line why)
+Explains a files TooLarge = GivesTold a files verdict.TooLarge × (a.capture ≡ None → ⊥)
 
 -- ---- of a replay
 
@@ -69,20 +154,21 @@ abbrev pub Fails : Asked → FilesCall → SinkCall → Failure → Type 0
 Fails a files out WriteFault = WritesPart a files out
 Fails a files out failure = Explains a files failure × IsUntouched out
 
-abbrev pub line_for : List ℕ → Failure → List ℕ
-line_for script Memory = memory_line
-line_for script ReadFault = read_line script
-line_for script WriteFault = write_line
-line_for script TooLong = line_of (verdict.TooLong script)
-line_for script (Refused line why) = line_of (verdict.ScriptRefused line why)
-line_for script TooLarge = line_of verdict.TooLarge
-line_for script NotBuilt = line_of verdict.NotBuilt
+-- the line of a failure
+abbrev pub line_for : Asked → Failure → List ℕ
+line_for a Memory = memory_line
+line_for a (ReadFault which) = read_line (unwrap_or (name_in a which) [])
+line_for a WriteFault = write_line
+line_for a (TooLong which) = line_of (verdict.TooLong (unwrap_or (name_in a which) []))
+line_for a (CaptureRefused fail) = line_of (verdict.CaptureRefused fail)
+line_for a (ScriptRefused line why) = line_of (verdict.ScriptRefused line why)
+line_for a TooLarge = line_of verdict.TooLarge
 
 abbrev pub status_for : Failure → ℕ
 status_for Memory = 1
-status_for ReadFault = 3
-status_for (Refused line why) = 5
+status_for (ReadFault which) = 3
+status_for (CaptureRefused fail) = 4
+status_for (ScriptRefused line why) = 5
 status_for WriteFault = 6
 status_for TooLarge = 7
-status_for TooLong = 8
-status_for NotBuilt = 9
+status_for (TooLong which) = 8

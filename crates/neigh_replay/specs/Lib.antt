@@ -1,3 +1,4 @@
+pub mod Hosting
 pub mod Answered
 pub mod Verdict
 pub mod Status

@@ -4,7 +4,6 @@ use Rattle.std.specs.Io.KnownBytes.{Appends}
 use Rattle.nb_base.specs.declared.plan.Mode.TheVariants as mode
 use Rattle.nb_base.specs.declared.plan.Plan.{Plan}
 use Rattle.nb_io.specs.Faults.{Rose}
-use Rattle.neigh_run.specs.Plan.{is_replayed}
 use Rattle.neigh_plan.specs.Inline.{most_lines, plan_bound}
 use Rattle.neigh_words.specs.declared.options.Settings.{Settings}
 use Rattle.neigh_words.specs.Settings.{Asked, asked, asked_by}
@@ -113,14 +112,13 @@ pub record NothingFailed (a : Asked) (files : FilesCall) (out : SinkCall) : Type
   pub reading : (place : ℕ) (name : List ℕ) → slice_get (names_of a) place ≡ Some name → NameFailed files name → ⊥
   pub writing : SinkFailed out → ⊥
 
--- where the files are told, read and not refused, their plan is replayed, its line bound is below 2^22 and nothing fails outside, the status is 0, or 1 for want of memory
+-- where the files are told, read and not refused, the line bound of their plan is below 2^22 and nothing fails outside, the status is 0, or 1 for want of memory
 abbrev pub ReplaysAreComplete : Type 0
 ReplaysAreComplete =
     (a : Asked) (files : FilesCall) (out err : SinkCall) (status : ℕ) (plan : Plan)
     → IsReplay a files out err status
     → AreTold a files.held
     → HavePlan a files.held plan
-    → is_replayed plan ≡ true
     → plan_bound plan < most_lines
     → NothingFailed a files out
     → IsOneOf (0 ∷ 1 ∷ []) status
@@ -133,7 +131,6 @@ ScriptsAreComplete =
     → a.capture ≡ None
     → AreTold a files.held
     → HavePlan a files.held plan
-    → is_replayed plan ≡ true
     → NothingFailed a files out
     → IsOneOf (0 ∷ 1 ∷ []) status
 

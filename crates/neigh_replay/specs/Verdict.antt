@@ -1,6 +1,7 @@
 -- What is asked for and what the named files hold decide: one verdict, by the first stage that refuses, or a report (this project's own).
-use Rattle.std.specs.Prelude.{◌≡◌, ℕ, ◌<◌, ◌≤◌, Bool, true, false, ◌&&◌, ◌==◌, is_some, is_none, List, [], ◌∷◌, ◌++◌, length, Option, Some, None, unwrap_or, Ok, Err, codes, decimal}
+use Rattle.std.specs.Prelude.{◌≡◌, ℕ, ◌<◌, ◌≤◌, Bool, true, false, ◌&&◌, ◌==◌, is_some, List, [], ◌∷◌, ◌++◌, length, Option, Some, None, unwrap_or, Ok, Err, codes, decimal}
 use Rattle.std.specs.Option.{option_to_list}
+use Rattle.std.specs.List.{AllByRecursion}
 use Rattle.nb_base.specs.declared.plan.Mode.{Mode}
 use Rattle.nb_base.specs.declared.plan.Mode.TheVariants as mode
 use Rattle.nb_base.specs.declared.plan.Plan.{Plan}
@@ -14,7 +15,6 @@ use Rattle.neigh_script.specs.declared.why.ScriptFail.TheVariants as script_fail
 use Rattle.neigh_script.specs.Lines.{script_of}
 use Rattle.neigh_script.specs.Why.{number_of}
 use Rattle.neigh_run.specs.declared.run.Run.{Run}
-use Rattle.neigh_run.specs.Plan.{is_replayed}
 use Rattle.neigh_run.specs.Inline.{IsInlineRun, journal_at}
 use Rattle.neigh_run.specs.Report.{report_text}
 use Rattle.neigh_words.specs.Settings.{Asked}
@@ -52,10 +52,15 @@ IsCaptureFile held None None = Unit {0}
 IsCaptureFile held (Some name) (Some bytes) = IsFile held name capture_limit bytes
 IsCaptureFile held _ _ = ⊥
 
+-- what a name holds is told, as bytes
+abbrev pub HoldsBytes : Option (List ℕ) → Type 0
+HoldsBytes None = ⊥
+HoldsBytes (Some bytes) = AllByRecursion (λ (byte : ℕ). byte < 256) bytes
+
 -- what both hold is told; a capture that isn't asked for holds nothing
 abbrev pub IsToldName : Held → Option (List ℕ) → Type 0
 IsToldName held None = Unit {0}
-IsToldName held (Some name) = is_some (held name) ≡ true
+IsToldName held (Some name) = HoldsBytes (held name)
 
 pub record AreTold (a : Asked) (held : Held) : Type 0 where
   pub script : is_some (held a.script) ≡ true
@@ -67,17 +72,8 @@ names_of a = a.script ∷ option_to_list a.capture
 
 -- ---- the stages
 
--- what is asked for is built: one bucket in the mode `inline`, and no capture
-abbrev pub is_inline : Mode → Bool
-is_inline mode.Inline = true
-is_inline mode.Threads = false
-
-abbrev pub is_built : Asked → Bool
-is_built a = is_inline a.mode && a.buckets == 1 && is_none a.capture
-
 -- both files were read, each within its limit
 pub record AreRead (a : Asked) (held : Held) (text : List ℕ) (capture : Option (List ℕ)) : Type 0 where
-  pub built : is_built a ≡ true
   pub script_file : IsFile held a.script script_limit text
   pub capture_file : IsCaptureFile held a.capture capture
 
@@ -97,7 +93,7 @@ pub record HavePlan (a : Asked) (held : Held) (plan : Plan) : Type 0 where
   pub read : script_of text ≡ Ok script
   pub planned : plan ≡ plan_of_files (unwrap_or capture []) records script a.window a.buckets
 
--- the run of a plan in a mode (the mode `threads` isn't built)
+-- the run of a plan in a mode (no words ask for the mode `threads`)
 abbrev pub IsRunIn : Mode → Plan → Run → Type 0
 IsRunIn mode.Inline plan run = IsInlineRun plan run
 IsRunIn mode.Threads plan run = ⊥
@@ -105,7 +101,6 @@ IsRunIn mode.Threads plan run = ⊥
 -- ---- the verdict
 
 pub data Verdict : Type 0 where
-  NotBuilt : Verdict
   TooLong : List ℕ → Verdict
   CaptureRefused : CaptureFail → Verdict
   ScriptRefused : ℕ → ScriptWhy → Verdict
@@ -114,31 +109,26 @@ pub data Verdict : Type 0 where
 
 -- which verdict is given: each stage refuses only where all before it passed
 pub data Gives : Asked → Held → Verdict → Type 0 where
-  -- what is asked for isn't built
-  not_asked : {a : Asked} {held : Held} → is_built a ≡ false → Gives a held NotBuilt
   -- the script is too long
-  script_long : {a : Asked} {held : Held} → is_built a ≡ true → IsLongFile held a.script script_limit → Gives a held (TooLong a.script)
+  script_long : {a : Asked} {held : Held} → IsLongFile held a.script script_limit → Gives a held (TooLong a.script)
   -- the capture is too long
-  capture_long : {a : Asked} {held : Held} {name : List ℕ} (text : List ℕ) → is_built a ≡ true → IsFile held a.script script_limit text
+  capture_long : {a : Asked} {held : Held} {name : List ℕ} (text : List ℕ) → IsFile held a.script script_limit text
       → a.capture ≡ Some name → IsLongFile held name capture_limit → Gives a held (TooLong name)
   -- the capture is refused
   capture_refused : {a : Asked} {held : Held} {fail : CaptureFail} (text bytes : List ℕ) → AreRead a held text (Some bytes) → IsRefusal bytes fail → Gives a held (CaptureRefused fail)
   -- the script is refused
   script_refused : {a : Asked} {held : Held} {line : ℕ} {why : ScriptWhy} (text : List ℕ) (capture : Option (List ℕ)) (records : List Rec)
       → AreRead a held text capture → HasRecords capture records → script_of text ≡ Err (script_fail.Refused line why) → Gives a held (ScriptRefused line why)
-  -- the plan isn't replayed yet
-  not_replayed : {a : Asked} {held : Held} (plan : Plan) → HavePlan a held plan → is_replayed plan ≡ false → Gives a held NotBuilt
   -- the plan's line bound is at least 2^22
-  too_large : {a : Asked} {held : Held} (plan : Plan) → HavePlan a held plan → is_replayed plan ≡ true → most_lines ≤ plan_bound plan → Gives a held TooLarge
+  too_large : {a : Asked} {held : Held} (plan : Plan) → HavePlan a held plan → most_lines ≤ plan_bound plan → Gives a held TooLarge
   -- the report is the text of the plan's run in the mode that is asked for
-  report : {a : Asked} {held : Held} {text : List ℕ} (plan : Plan) (run : Run) → HavePlan a held plan → is_replayed plan ≡ true → plan_bound plan < most_lines
+  report : {a : Asked} {held : Held} {text : List ℕ} (plan : Plan) (run : Run) → HavePlan a held plan → plan_bound plan < most_lines
       → IsRunIn a.mode plan run → length (journal_at run.journals 0) ≤ most_lines → text ≡ report_text run → Gives a held (Report text)
 
 -- ---- what a verdict shows
 
 -- the status (3 is a file that can't be read, 6 an output that can't be written, 1 want of memory, and 2 other words)
 abbrev pub status_of : Verdict → ℕ
-status_of NotBuilt = 9
 status_of (TooLong name) = 8
 status_of (CaptureRefused fail) = 4
 status_of (ScriptRefused line why) = 5
@@ -147,7 +137,6 @@ status_of (Report text) = 0
 
 -- the line on standard error, and none for a report
 unfoldable pub line_of : Verdict → List ℕ
-line_of NotBuilt = codes "neigh: not built\n"
 line_of (TooLong name) = codes "neigh: too long: " ++ (name ++ 10 ∷ [])
 line_of (CaptureRefused fail) = codes "neigh: capture refused: " ++ (decimal (code_of fail) ++ (codes " at " ++ (decimal (place_of fail) ++ 10 ∷ [])))
 line_of (ScriptRefused line why) = codes "neigh: script refused: " ++ (decimal (number_of why) ++ (codes " at line " ++ (decimal line ++ 10 ∷ [])))

@@ -1,19 +1,16 @@
 //! What a bucket answers to the operations of a plan, one after the other.
-ghost use Rattle.std.specs.Prelude.{◌≡◌, ℕ, ◌≤◌, ◌<◌, List, [], ◌∷◌, ◌++◌, length, Err, IfOk, OnOk};
+ghost use Rattle.std.specs.Prelude.{◌≡◌, ◌≤◌, List, [], ◌∷◌, ◌++◌, IfOk, OnOk};
 ghost use Rattle.std.specs.List.{AllByRecursion};
 ghost use Rattle.nb_base.specs.declared.line.Line.{Line};
 ghost use Rattle.nb_base.specs.Params.{InRange};
-ghost use Rattle.nb_journal.specs.Accounts.{line_bound};
 ghost use Rattle.neigh_plan.specs.Merging.{AreByMoment};
-ghost use Rattle.neigh_plan.specs.Inline.{most_lines};
-ghost use Rattle.neigh_replay.specs.Answered.{IsTask, HasEntered};
+ghost use Rattle.neigh_replay.specs.Answered.{IsTask, HasEntered, HasRoom, AreInBound};
 
-use crate::fail::ReplayFail;
 use nb_base::{Items, Line, Moment, OpId, Reply};
 use nb_bucket::{Bucket, BucketFail};
 use nb_census::PlainCensus;
 use nb_journal::id_of;
-use std::alloc::Global;
+use std::alloc::{AllocError, Global};
 
 /// What was answered to an operation: its number and its moment, its place in the journal, and the reply.
 #[derive(Clone, Copy, Debug, PartialEq, Eq)]
@@ -25,21 +22,19 @@ pub struct Answer {
 }
 
 /// Enters the operation of a line that doesn't lie before the bucket's clock, and appends what is answered. The bucket is the whole
-/// table, so its census tells that the others hold nothing.
-/// Without room for what comes next, the line bound is at least 2^22.
+/// table, so its census tells that the others hold nothing. It has room for what comes next, since the line bound is below 2^22.
 fn enter_next(
     alloc: Global,
     bucket: &mut Bucket,
     answers: &mut Items<Answer>,
     line: &Line,
-) -> Result<(), ReplayFail>
+) -> Result<(), AllocError>
     requires params { InRange bucket.old.params }
     requires task { IsTask line.now }
     requires later { bucket.old.clock ≤ line.now.at }
+    requires room { HasRoom bucket.old answers.old line.now }
     ensures params { OnOk result (bucket.new.params ≡ bucket.old.params) }
     ensures entered { (before : List Line) → HasEntered before bucket.old answers.old → OnOk result (HasEntered (before ++ line.now ∷ []) bucket.new answers.new) }
-    ensures too_large { (before : List Line) (moment operations : ℕ) → result ≡ Err ReplayFail.TooLarge → HasEntered before bucket.old answers.old
-        → line.now.at ≤ moment → length before < operations → most_lines ≤ line_bound bucket.old.params operations moment }
 {
     let id = id_of(line);
     let present = bucket.present();
@@ -54,26 +49,24 @@ fn enter_next(
             })?;
             Ok(())
         }
-        Err(BucketFail::JournalFull { .. }) => Err(ReplayFail::TooLarge),
-        Err(BucketFail::Memory) => Err(ReplayFail::Memory),
+        Err(BucketFail::JournalFull { .. }) => unreachable!(),
+        Err(BucketFail::Memory) => Err(AllocError),
     }
 }
 
-/// Enters the operations of lines by moment into a new bucket, one after the other.
-/// Without room for all of them, the line bound is at least 2^22.
+/// Enters the operations of lines by moment into a new bucket, one after the other. Their line bound is below 2^22.
 pub(crate) fn enter_all(
     alloc: Global,
     bucket: &mut Bucket,
     lines: &[Line],
-) -> Result<Items<Answer>, ReplayFail>
+) -> Result<Items<Answer>, AllocError>
     requires params { InRange bucket.old.params }
     requires new { HasEntered [] bucket.old [] }
     requires tasks { AllByRecursion IsTask lines.now }
     requires by_moment { AreByMoment lines.now }
+    requires room { AreInBound bucket.old.params lines.now }
     ensures params { IfOk result (λ _. bucket.new.params ≡ bucket.old.params) }
     ensures entered { IfOk result (HasEntered lines.now bucket.new) }
-    ensures too_large { (moment : ℕ) → result ≡ Err ReplayFail.TooLarge → AllByRecursion (λ (line : Line). line.at ≤ moment) lines.now
-        → most_lines ≤ line_bound bucket.old.params (length lines.now) moment }
 {
     let mut answers = Items::new(alloc);
     for line in lines {

@@ -2,7 +2,9 @@
 #![tactic(auto)]
 
 mod answers;
-mod fail;
+mod failure;
+mod files;
+mod host;
 mod inline;
 pub mod laws;
 mod program;
@@ -10,7 +12,6 @@ mod replay;
 mod status;
 mod top;
 
-pub use fail::ReplayFail;
 pub use inline::replay_inline;
 pub use program::{NoWords, answer, command_words};
 pub use top::{run, run_inline};

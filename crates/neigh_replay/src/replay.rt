@@ -1,39 +1,22 @@
-//! From the names of files to the report.
-ghost use Rattle.std.specs.Prelude.{◌≡◌, ◌&&◌, ◌==◌, ◌≤◌, false, is_none, length, Err, IfOk, IfNone, IfSome, MatchResult};
-ghost use Rattle.neigh_run.specs.Plan.{plan_of};
-ghost use Rattle.neigh_run.specs.Plan as plans;
-ghost use Rattle.neigh_script.specs.Limits as limits;
+//! From what is asked for to the report.
+ghost use Rattle.std.specs.Prelude.{MatchResult};
+ghost use Rattle.neigh_plan.specs.Inline.{IsEnterable};
 ghost use Rattle.neigh_replay.specs.Verdict.{Report};
-ghost use Rattle.neigh_replay.specs.Verdict as verdict;
 ghost use Rattle.neigh_replay.specs.Replay.{GivesTold, files_call, sink_call, inline_by};
-ghost use Rattle.neigh_replay.specs.Failures.{IsScriptsReport, IsReportOf, Refuses, Explains, WritesReport, Fails};
+ghost use Rattle.neigh_replay.specs.Failures.{IsPlansReport, RefusesPlan, IsReportOf, Refuses, Explains, WritesReport, Fails};
 
-use crate::fail::ReplayFail;
+use crate::failure::Failure;
+use crate::files::{plan_of, read_capture, read_script};
 use crate::inline::replay_inline;
-use nb_base::Bytes;
-use nb_io::{Inputs, ReadFail, Sink, read_all, write_all};
-use neigh_plan::{is_replayed, plan};
+use nb_base::{Bytes, Plan};
+use nb_io::{Inputs, Sink, write_all};
+use neigh_plan::line_bound;
 use neigh_report::text;
-use neigh_script::{Script, ScriptFail, ScriptWhy, read};
 use neigh_words::Settings;
 use std::alloc::Global;
 
-/// The most bytes of a script: 8 MiB.
-const SCRIPT_LIMIT: usize = 8_388_608;
-
-/// Why no report, or not the whole, was written.
-#[derive(Clone, Copy, Debug, PartialEq, Eq)]
-pub enum Failure {
-    Memory,
-    ReadFault,
-    TooLong,
-    /// The script is refused at this line, counted from 1.
-    Refused { line: u32, why: ScriptWhy },
-    /// The plan's journal would have more than 2^22 lines.
-    TooLarge,
-    NotBuilt,
-    WriteFault,
-}
+/// The line bound of a plan that is too large: 2^22.
+const LINE_LIMIT: u64 = 4_194_304;
 
 /// Replays in the mode `inline` what the settings ask for, and writes the report.
 pub(crate) fn replay<I: Inputs, K: Sink>(
@@ -53,7 +36,7 @@ pub(crate) fn replay<I: Inputs, K: Sink>(
     }
 }
 
-/// The report of what the settings ask for in the mode `inline`.
+/// The report of what the settings ask for in the mode `inline`. The script is read before the capture.
 fn report_of<I: Inputs>(
     alloc: Global,
     settings: &Settings,
@@ -63,59 +46,33 @@ fn report_of<I: Inputs>(
         (λ report. GivesTold (inline_by settings.now) (files_call (I.held inputs.old) (I.faults inputs.old) (I.faults inputs.new)) (Report report))
         (Explains (inline_by settings.now) (files_call (I.held inputs.old) (I.faults inputs.old) (I.faults inputs.new))) }
 {
-    if !is_built(settings) {
-        return Err(Failure::NotBuilt);
-    }
-    match read_all(alloc, inputs, settings.script.as_str(), SCRIPT_LIMIT) {
-        Ok(text) => report_of_text(alloc, settings.window, &text),
-        Err(ReadFail::ReadFault) => Err(Failure::ReadFault),
-        Err(ReadFail::TooLong) => Err(Failure::TooLong),
-        Err(ReadFail::Memory) => Err(Failure::Memory),
-    }
+    let text = read_script(alloc, inputs, settings.script.as_str())?;
+    let capture = read_capture(alloc, inputs, &settings.capture)?;
+    report_of_files(alloc, settings.window, &text, &capture)
 }
 
-/// Whether a replay in the mode `inline` of what the settings ask for is built.
-fn is_built(settings: &Settings) -> bool
-    ensures { result ≡ verdict.is_built (inline_by settings.now) }
-{
-    settings.buckets == 1 && settings.capture.is_none()
-}
-
-/// The report of a script's text.
-fn report_of_text(alloc: Global, window: u32, text: &Bytes) -> Result<Bytes, Failure>
-    ensures { MatchResult result (IsReportOf window text.now) (Refuses window text.now) }
-{
-    let script = match read(alloc, text.as_slice()) {
-        Ok(script) => script,
-        Err(ScriptFail::Refused { line, why }) => return Err(Failure::Refused { line, why }),
-        Err(ScriptFail::Memory) => return Err(Failure::Memory),
-    };
-    match report_of_script(alloc, window, &script) {
-        Ok(Some(report)) => Ok(report),
-        Ok(None) => Err(Failure::NotBuilt),
-        Err(ReplayFail::TooLarge) => Err(Failure::TooLarge),
-        Err(ReplayFail::Memory) => Err(Failure::Memory),
-    }
-}
-
-/// The report of a script; none where its plan isn't replayed.
-/// With at most 131,072 lines a script's line bound is below 2^22, so its plan is never too large.
-#[tactic(auto, using(neigh_plan::proofs::ScriptBounds::script_bound))]
-fn report_of_script(
+/// The report of a script's text, and of a capture where there is one.
+fn report_of_files(
     alloc: Global,
     window: u32,
-    script: &Script,
-) -> Result<Option<Bytes>, ReplayFail>
-    requires within { limits.IsWithinLimits script.now }
-    requires few { length script.now.items ≤ 131_072 }
-    ensures made { IfOk result (λ made. IfSome made (IsScriptsReport window script.now)) }
-    ensures other { IfOk result (λ made. IfNone made (plans.is_replayed (plan_of script.now window 1) ≡ false)) }
-    ensures never_too_large { result ≡ Err ReplayFail.TooLarge → ⊥ }
+    text: &Bytes,
+    capture: &Option<Bytes>,
+) -> Result<Bytes, Failure>
+    ensures { MatchResult result (IsReportOf window text.now capture.now) (Refuses window text.now capture.now) }
 {
-    let plan = plan(alloc, script, window, 1)?;
-    if !is_replayed(alloc, &plan)? {
-        return Ok(None);
+    let plan = plan_of(alloc, window, text, capture)?;
+    report_of_plan(alloc, plan)
+}
+
+/// The report of a plan whose line bound is below 2^22.
+fn report_of_plan(alloc: Global, plan: Plan) -> Result<Bytes, Failure>
+    requires { IsEnterable plan }
+    ensures { MatchResult result (IsPlansReport plan) (RefusesPlan plan) }
+{
+    if line_bound(&plan) >= LINE_LIMIT {
+        return Err(Failure::TooLarge);
     }
     let run = replay_inline(alloc, plan)?;
-    Ok(Some(text(alloc, &run)?))
+    let report = text(alloc, &run)?;
+    Ok(report)
 }

@@ -1,13 +1,16 @@
 //! The statuses of failures and their lines on standard error.
-ghost use Rattle.std.specs.Prelude.{◌≡◌, ◌≢◌, ◌++◌, ◌∷◌, [], IfOk, codes, decimal, string_bytes};
+ghost use Rattle.std.specs.Prelude.{◌≡◌, ◌≢◌, ◌++◌, ◌∷◌, [], IfOk, unwrap_or, codes, decimal, string_bytes};
+ghost use Rattle.pcap_records.specs.Fail.{code_of, place_of};
 ghost use Rattle.neigh_script.specs.Why.{number_of};
+ghost use Rattle.neigh_replay.specs.Replay.{inline_by};
 ghost use Rattle.neigh_replay.specs.Status.{Says, memory_line, write_line, usage_line};
-ghost use Rattle.neigh_replay.specs.Verdict as verdict;
-ghost use Rattle.neigh_replay.specs.Failures.{line_for, status_for};
+ghost use Rattle.neigh_replay.specs.Failures.{line_for, name_in, status_for};
 
-use crate::replay::Failure;
+use crate::failure::{Failure, File};
 use nb_io::{Sink, WriteFault, write_all};
 use neigh_script::ScriptWhy;
+use neigh_words::Settings;
+use pcap_records::CaptureFail;
 use std::alloc::{AllocError, Global};
 use std::fmt::Write;
 
@@ -17,41 +20,66 @@ pub fn status_of(failure: Failure) -> u8
 {
     match failure {
         Failure::Memory => 1,
-        Failure::ReadFault => 3,
-        Failure::Refused { .. } => 5,
+        Failure::ReadFault(_) => 3,
+        Failure::CaptureRefused(_) => 4,
+        Failure::ScriptRefused { .. } => 5,
         Failure::WriteFault => 6,
         Failure::TooLarge => 7,
-        Failure::TooLong => 8,
-        Failure::NotBuilt => 9,
+        Failure::TooLong(_) => 8,
+    }
+}
+
+/// The name of a file that is asked for.
+fn name_of(settings: &Settings, file: File) -> &str
+    ensures { result.now ≡ unwrap_or (name_in (inline_by settings.now) file) [] }
+{
+    match file {
+        File::Script => settings.script.as_str(),
+        File::Capture => match &settings.capture {
+            Some(name) => name.as_str(),
+            None => "",
+        },
     }
 }
 
 /// The line of a failure.
 #[tactic(auto, unfolding(crate::specs::Status::memory_line, crate::specs::Status::read_line, crate::specs::Status::write_line, crate::specs::Verdict::line_of))]
-fn line_of(alloc: Global, failure: Failure, script: &str) -> Result<String, AllocError>
-    ensures { IfOk result (λ line. string_bytes line ≡ line_for script.now failure) }
+fn line_of(alloc: Global, failure: Failure, settings: &Settings) -> Result<String, AllocError>
+    ensures { IfOk result (λ line. string_bytes line ≡ line_for (inline_by settings.now) failure) }
 {
     match failure {
         Failure::Memory => String::from_str(alloc, "neigh: no memory\n"),
-        Failure::ReadFault => named_line(alloc, "neigh: cannot read ", script),
+        Failure::ReadFault(file) => {
+            named_line(alloc, "neigh: cannot read ", name_of(settings, file))
+        }
         Failure::WriteFault => String::from_str(alloc, "neigh: cannot write\n"),
-        Failure::TooLong => named_line(alloc, "neigh: too long: ", script),
-        Failure::Refused { line, why } => refusal_line(alloc, line, why),
+        Failure::TooLong(file) => named_line(alloc, "neigh: too long: ", name_of(settings, file)),
+        Failure::CaptureRefused(fail) => capture_line(alloc, fail),
+        Failure::ScriptRefused { line, why } => script_line(alloc, line, why),
         Failure::TooLarge => String::from_str(alloc, "neigh: too large\n"),
-        Failure::NotBuilt => String::from_str(alloc, "neigh: not built\n"),
     }
 }
 
-fn named_line(alloc: Global, front: &str, script: &str) -> Result<String, AllocError>
-    ensures { IfOk result (λ line. string_bytes line ≡ front.now ++ (script.now ++ 10 ∷ [])) }
+fn named_line(alloc: Global, front: &str, name: &str) -> Result<String, AllocError>
+    ensures { IfOk result (λ line. string_bytes line ≡ front.now ++ (name.now ++ 10 ∷ [])) }
 {
     let mut line = String::from_str(alloc, front)?;
-    line.push_str(script)?;
+    line.push_str(name)?;
     line.push('\n')?;
     Ok(line)
 }
 
-fn refusal_line(alloc: Global, line: u32, why: ScriptWhy) -> Result<String, AllocError>
+fn capture_line(alloc: Global, fail: CaptureFail) -> Result<String, AllocError>
+    ensures { IfOk result (λ text. string_bytes text ≡ codes "neigh: capture refused: " ++ (decimal (code_of fail) ++ (codes " at " ++ (decimal (place_of fail) ++ 10 ∷ [])))) }
+{
+    let code = fail.code();
+    let place = fail.place();
+    let mut text = String::new(alloc);
+    writeln!(text, "neigh: capture refused: {code} at {place}")?;
+    Ok(text)
+}
+
+fn script_line(alloc: Global, line: u32, why: ScriptWhy) -> Result<String, AllocError>
     ensures { IfOk result (λ text. string_bytes text ≡ codes "neigh: script refused: " ++ (decimal (number_of why) ++ (codes " at line " ++ (decimal line ++ 10 ∷ [])))) }
 {
     let number = why.number();
@@ -89,14 +117,6 @@ pub fn say_usage<E: Sink>(err: &mut E)
     );
 }
 
-/// Says that what is asked for isn't built.
-#[tactic(auto, unfolding(crate::specs::Verdict::line_of))]
-pub fn say_not_built<E: Sink>(err: &mut E)
-    ensures { Says (E.taken err.old) (E.taken err.new) (E.faults err.old) (E.faults err.new) (verdict.line_of verdict.NotBuilt) }
-{
-    say(err, b"neigh: not built\n");
-}
-
 #[tactic(auto, unfolding(crate::specs::Status::write_line))]
 fn say_write_fault<E: Sink>(err: &mut E)
     ensures { Says (E.taken err.old) (E.taken err.new) (E.faults err.old) (E.faults err.new) write_line }
@@ -105,16 +125,16 @@ fn say_write_fault<E: Sink>(err: &mut E)
 }
 
 /// Says why nothing or a part was written, and answers what it said. Where a line finds no memory, that is what is said; the line of a failed write needs none.
-pub fn tell<E: Sink>(alloc: Global, failure: Failure, script: &str, err: &mut E) -> Failure
+pub fn tell<E: Sink>(alloc: Global, failure: Failure, settings: &Settings, err: &mut E) -> Failure
     ensures same { result ≢ Failure.Memory → result ≡ failure }
     ensures kept { failure ≡ Failure.WriteFault → result ≡ Failure.WriteFault }
-    ensures said { Says (E.taken err.old) (E.taken err.new) (E.faults err.old) (E.faults err.new) (line_for script.now result) }
+    ensures said { Says (E.taken err.old) (E.taken err.new) (E.faults err.old) (E.faults err.new) (line_for (inline_by settings.now) result) }
 {
     if failure == Failure::WriteFault {
         say_write_fault(err);
         return Failure::WriteFault;
     }
-    match line_of(alloc, failure, script) {
+    match line_of(alloc, failure, settings) {
         Ok(line) => {
             say(err, line.as_bytes());
             failure

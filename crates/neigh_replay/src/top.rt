@@ -1,17 +1,15 @@
 //! The whole command.
-ghost use Rattle.std.specs.Prelude.{◌≡◌, map, string_bytes};
-ghost use Rattle.neigh_words.specs.Settings.{asked_by};
+ghost use Rattle.std.specs.Prelude.{map, string_bytes};
 ghost use Rattle.neigh_replay.specs.Replay.{IsReplay, IsCommand, files_call, sink_call, inline_by};
 
 use crate::replay::replay;
-use crate::status::{say_no_memory, say_not_built, say_usage, status_of, tell};
-use nb_base::Mode;
+use crate::status::{say_no_memory, say_usage, status_of, tell};
 use nb_io::{Gate, Inputs, Sink};
 use neigh_words::{Settings, SettingsFail, settings};
 use std::alloc::Global;
 
 /// Replays by one thread what the settings ask for, writes the report or says why there is none, and answers the status.
-/// It takes no notice of the settings' mode. A capture and other numbers of buckets than one aren't built.
+/// It takes no notice of the settings' mode.
 pub fn run_inline<I: Inputs, K: Sink, E: Sink>(
     alloc: Global,
     settings: &Settings,
@@ -25,28 +23,7 @@ pub fn run_inline<I: Inputs, K: Sink, E: Sink>(
 {
     match replay(alloc, settings, inputs, out) {
         Ok(()) => 0,
-        Err(failure) => status_of(tell(alloc, failure, settings.script.as_str(), err)),
-    }
-}
-
-/// Replays what the settings ask for in their mode. The mode `threads` isn't built.
-fn run_asked<I: Inputs, K: Sink, E: Sink>(
-    alloc: Global,
-    settings: &Settings,
-    inputs: &mut I,
-    out: &mut K,
-    err: &mut E,
-) -> u8
-    ensures { IsReplay (asked_by settings.now) (files_call (I.held inputs.old) (I.faults inputs.old) (I.faults inputs.new))
-        (sink_call (K.taken out.old) (K.taken out.new) (K.faults out.old) (K.faults out.new))
-        (sink_call (E.taken err.old) (E.taken err.new) (E.faults err.old) (E.faults err.new)) result }
-{
-    match settings.mode {
-        Mode::Inline => run_inline(alloc, settings, inputs, out, err),
-        Mode::Threads => {
-            say_not_built(err);
-            9
-        }
+        Err(failure) => status_of(tell(alloc, failure, settings, err)),
     }
 }
 
@@ -65,7 +42,7 @@ pub fn run<R, I: Inputs, K: Sink, E: Sink, G: Gate>(
         (sink_call (E.taken err.old) (E.taken err.new) (E.faults err.old) (E.faults err.new)) result }
 {
     match settings(alloc, words) {
-        Ok(settings) => run_asked(alloc, &settings, inputs, out, err),
+        Ok(settings) => run_inline(alloc, &settings, inputs, out, err),
         Err(SettingsFail::Usage) => {
             say_usage(err);
             2

@@ -14,4 +14,4 @@ returns-in-Err g c =
     rw c.status_of.ensures
     (failed_replay (inline_by c.args.settings.now) files out err c.tell.result
     (said_instead (inline_by c.args.settings.now) files out c.in-Err.failure c.tell.result c.tell.ensures.same c.tell.ensures.kept c.in-Err.ensures)
-    (rw (← c.as_str.ensures.value) c.tell.ensures.said))
+    c.tell.ensures.said)
