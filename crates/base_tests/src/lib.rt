@@ -1,4 +1,4 @@
-//! Tests of the base crates: addresses, the outside, codecs, captures, linked lists, timers and the sequence lock.
+//! Tests of the base crates: addresses, the outside, codecs, captures, generated input, linked lists, timers and the sequence lock.
 #![tactic(auto)]
 
 #[cfg(test)]
@@ -7,6 +7,8 @@ mod addresses;
 mod captures;
 #[cfg(test)]
 mod discovery;
+#[cfg(test)]
+mod generated;
 #[cfg(test)]
 mod link_layer;
 #[cfg(test)]

@@ -3,24 +3,27 @@ use neigh_words::{SettingsFail, settings};
 use std::alloc::{AllocError, Global};
 use std::test::Fail;
 
-// Words of the command, with the script and the window that they ask for.
-const TAKEN: [(&[&str], &str, u32); 17] = [
-    (&["--script", "s"], "s", 50),
-    (&["--script=s"], "s", 50),
-    (&["--script", ""], "", 50),
-    (&["--script="], "", 50),
-    (&["--script=-x"], "-x", 50),
-    (&["--script=-"], "-", 50),
-    (&["--script=--"], "--", 50),
-    (&["--script=a=b"], "a=b", 50),
-    (&["--script", "a b"], "a b", 50),
-    (&["--script", "s", "--mode", "inline"], "s", 50),
-    (&["--mode=inline", "--script", "s"], "s", 50),
-    (&["--script", "s", "--window", "1"], "s", 1),
-    (&["--window", "60000", "--script", "s"], "s", 60_000),
-    (&["--window=0000000060", "--script=s"], "s", 60),
-    (&["--script", "s", "--buckets", "1"], "s", 50),
-    (&["--buckets=0000000001", "--script=s"], "s", 50),
+// Words of the command, with the script, the capture and the window that they ask for.
+const TAKEN: [(&[&str], &str, Option<&str>, u32); 20] = [
+    (&["--script", "s"], "s", None, 50),
+    (&["--script=s"], "s", None, 50),
+    (&["--script", ""], "", None, 50),
+    (&["--script="], "", None, 50),
+    (&["--script=-x"], "-x", None, 50),
+    (&["--script=-"], "-", None, 50),
+    (&["--script=--"], "--", None, 50),
+    (&["--script=a=b"], "a=b", None, 50),
+    (&["--script", "a b"], "a b", None, 50),
+    (&["--script", "s", "--capture", "c"], "s", Some("c"), 50),
+    (&["--capture=-", "--script", "s"], "s", Some("-"), 50),
+    (&["--script=s", "--capture", ""], "s", Some(""), 50),
+    (&["--script", "s", "--mode", "inline"], "s", None, 50),
+    (&["--mode=inline", "--script", "s"], "s", None, 50),
+    (&["--script", "s", "--window", "1"], "s", None, 1),
+    (&["--window", "60000", "--script", "s"], "s", None, 60_000),
+    (&["--window=0000000060", "--script=s"], "s", None, 60),
+    (&["--script", "s", "--buckets", "1"], "s", None, 50),
+    (&["--buckets=0000000001", "--script=s"], "s", None, 50),
     (
         &[
             "--buckets",
@@ -32,12 +35,13 @@ const TAKEN: [(&[&str], &str, u32); 17] = [
             "inline",
         ],
         "inline",
+        None,
         7,
     ),
 ];
 
 // Words that aren't of the command.
-const OUTSIDE: [&[&str]; 36] = [
+const OUTSIDE: [&[&str]; 38] = [
     &[],
     &["s"],
     &["--script"],
@@ -62,7 +66,9 @@ const OUTSIDE: [&[&str]; 36] = [
     &["--help"],
     &["--script", "s", "-h"],
     &["--script", "s", "--version"],
-    &["--script", "s", "--capture", "c"],
+    &["--script", "s", "--capture"],
+    &["--capture", "c"],
+    &["--script", "s", "--capture=c", "--capture=c"],
     &["--script", "s", "--mode", "threads"],
     &["--script", "s", "--mode="],
     &["--script", "s", "--window", "0"],
@@ -87,10 +93,15 @@ fn strings(alloc: Global, words: &[&str]) -> Result<Vec<String>, AllocError> {
 #[test]
 fn words_of_the_command_give_their_settings(rt: HostRuntime) -> Result<(), Fail> {
     let alloc = rt.alloc();
-    for (words, script, window) in &TAKEN {
+    for (words, script, capture, window) in &TAKEN {
         let words = strings(alloc, words)?;
         let asked = settings(alloc, &words).map_err(|_| "settings")?;
+        let named = match &asked.capture {
+            Some(name) => Some(name.as_str()),
+            None => None,
+        };
         assert_eq!(rt; asked.script.as_str(), *script);
+        assert_eq!(rt; named, *capture);
         assert_eq!(rt; asked.window, *window, "{}", *script);
         assert_eq!(rt; asked.mode, Mode::Inline);
         assert_eq!(rt; asked.buckets, 1);

@@ -1,11 +1,13 @@
-ghost use Rattle.std.specs.Prelude.{◌≤◌, length};
+ghost use Rattle.std.specs.Prelude.{◌≡◌, ◌≤◌, length, IfOk};
 ghost use Rattle.neigh_script.specs.Limits as limits;
+ghost use Rattle.neigh_run.specs.Plan as plan_by;
 
+use nb_base::{Items, Plan};
 use neigh_plan::plan;
-use neigh_replay::{ReplayFail, replay_inline};
+use neigh_replay::replay_inline;
 use neigh_report::{Fates, fates};
 use neigh_script::{Script, read};
-use std::alloc::Global;
+use std::alloc::{AllocError, Global};
 use std::test::Fail;
 
 /// Two packets go to a permanent entry. Of four to an address that never answers one is dropped as the bytes that may wait are too few, and three
@@ -23,14 +25,23 @@ param unres_qlen_bytes 800
 @3600 send 1 10.0.0.9 07
 ";
 
+/// The plan of a script alone.
+#[tactic(auto, using(neigh_plan::proofs::Items::plan_of_files_is, neigh_plan::proofs::Items::none_bounded))]
+fn plan_of(alloc: Global, script: &Script) -> Result<Plan, AllocError>
+    ensures value { IfOk result (λ plan. plan ≡ plan_by.plan_of script.now 50 1) }
+{
+    plan(alloc, &Items::new(alloc), &[], script, 50, 1)
+}
+
 /// What became of the packets of a script, by one thread.
-fn fates_of(alloc: Global, script: &Script) -> Result<Fates, ReplayFail>
+fn fates_of(alloc: Global, script: &Script) -> Result<Fates, AllocError>
     requires within { limits.IsWithinLimits script.now }
     requires few { length script.now.items ≤ 131_072 }
 {
-    let plan = plan(alloc, script, 50, 1)?;
+    let plan = plan_of(alloc, script)?;
     let run = replay_inline(alloc, plan)?;
-    Ok(fates(alloc, &run)?)
+    let fates = fates(alloc, &run)?;
+    Ok(fates)
 }
 
 #[test]

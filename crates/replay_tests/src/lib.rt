@@ -8,6 +8,8 @@ mod command_words;
 #[cfg(test)]
 mod fates_of_scripts;
 #[cfg(test)]
+mod replays;
+#[cfg(test)]
 mod reports;
 #[cfg(test)]
 mod script_language;

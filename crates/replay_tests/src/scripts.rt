@@ -2,10 +2,13 @@
 mod adding;
 mod changing;
 mod confirming;
+mod forced_passes;
 mod ordering;
 mod removing;
 mod retiming;
 mod sizes;
+mod sweeps;
+mod thresholds;
 mod timers;
 mod waiting;
 
@@ -160,5 +163,14 @@ fn operations_by_hand_and_several_senders(rt: HostRuntime) -> Result<(), Fail> {
     assert_eq!(rt; first_wrong(&rt, alloc, &changing::SCRIPTS)?, None);
     assert_eq!(rt; first_wrong(&rt, alloc, &removing::SCRIPTS)?, None);
     assert_eq!(rt; first_wrong(&rt, alloc, &ordering::SCRIPTS)?, None);
+    Ok(())
+}
+
+#[test]
+fn thresholds_forced_passes_and_sweeps(rt: HostRuntime) -> Result<(), Fail> {
+    let alloc = rt.alloc();
+    assert_eq!(rt; first_wrong(&rt, alloc, &thresholds::SCRIPTS)?, None);
+    assert_eq!(rt; first_wrong(&rt, alloc, &forced_passes::SCRIPTS)?, None);
+    assert_eq!(rt; first_wrong(&rt, alloc, &sweeps::SCRIPTS)?, None);
     Ok(())
 }
