@@ -12,7 +12,8 @@ use Rattle.bucket_stamps.specs.declared.view.Turn.{Turn}
 use Rattle.bucket_stamps.specs.declared.view.History.{History}
 use Rattle.bucket_stamps.specs.declared.view.Part.{Part}
 use Rattle.bucket_stamps.specs.declared.view.View.{View}
-use Rattle.bucket_stamps.specs.Own.{participant_of, pair_by, pairs_from, own_pairs, turns_of, length_behind, NeverFall, AreTurnsOf, IsWithin, IsTurnOfOne}
+use Rattle.nb_base.specs.Ids.{participant_of}
+use Rattle.bucket_stamps.specs.Own.{pair_by, pairs_from, own_pairs, turns_of, length_behind, NeverFall, AreTurnsOf, IsWithin, IsTurnOfOne}
 use Rattle.bucket_stamps.specs.Kept.{HasAllOf, AgreesWith}
 use Rattle.bucket_stamps.specs.Views.{with_line, with_turn, met, owns, turn_by, turned}
 use Rattle.bucket_stamps.proofs.Lists.{begins_longer, begins_self, the_some, if_some_at}

@@ -15,7 +15,8 @@ use Rattle.nb_base.specs.declared.line.Line.{Line}
 use Rattle.bucket_stamps.specs.declared.view.History.{History}
 use Rattle.bucket_stamps.specs.declared.view.Part.{Part}
 use Rattle.bucket_stamps.specs.declared.view.View.{View}
-use Rattle.bucket_stamps.specs.Own.{participant_of, own_pairs}
+use Rattle.nb_base.specs.Ids.{participant_of}
+use Rattle.bucket_stamps.specs.Own.{own_pairs}
 use Rattle.bucket_stamps.specs.Views.{first_view, empty_history, newcomer, token_of, spent, one_more, comes_in, takes_in, who_stays, who_goes, met, writes, with_line, with_turn, owns, turned, participant_in}
 use Rattle.bucket_stamps.specs.Kept.{Kept, Shows, StandsAt, AgreesWith, LookTells, IsThere}
 use Rattle.bucket_stamps.proofs.Lists.{off, at_snoc_place, set_there, if_some_is, if_some_more, none_some, moved, moved_here, moved_else}

@@ -8,7 +8,8 @@ use Rattle.nb_base.specs.declared.time.OpId.{OpId}
 use Rattle.nb_base.specs.declared.line.Line.{Line}
 use Rattle.bucket_stamps.specs.declared.view.Part.{Part}
 use Rattle.bucket_stamps.specs.declared.view.View.{View}
-use Rattle.bucket_stamps.specs.Own.{participant_of, pair_by, pairs_from}
+use Rattle.nb_base.specs.Ids.{participant_of}
+use Rattle.bucket_stamps.specs.Own.{pair_by, pairs_from}
 use Rattle.bucket_stamps.specs.Views.{owns, owns_all}
 use Rattle.bucket_stamps.specs.Shown.{StamperShown, after_line, after_plain, after_lines, IsOfLodged, lodged_participant}
 use Rattle.bucket_stamps.proofs.Lists.{if_some_more}

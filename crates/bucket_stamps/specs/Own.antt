@@ -1,12 +1,9 @@
 -- Whose a line and a turn are (this project's own).
-use Rattle.std.specs.Prelude.{◌≡◌, ℕ, zero, suc, ◌+◌, ◌%◌, ◌<◌, ◌≤◌, ◌==◌, if◌then◌else◌, List, [], ◌∷◌, ◌++◌, length, Option, None, Some, IfSome}
+use Rattle.std.specs.Prelude.{◌≡◌, ℕ, zero, suc, ◌+◌, ◌<◌, ◌≤◌, ◌==◌, if◌then◌else◌, List, [], ◌∷◌, ◌++◌, length, Option, None, Some, IfSome}
 use Rattle.nb_base.specs.declared.time.OpId.{OpId}
 use Rattle.nb_base.specs.declared.line.Line.{Line}
+use Rattle.nb_base.specs.Ids.{participant_of}
 use Rattle.bucket_stamps.specs.declared.view.Turn.{Turn}
-
--- the participant that an id names: an id is 32 times a number, plus the participant
-abbrev pub participant_of : OpId → ℕ
-participant_of id = id.0 % 32
 
 -- the pair of place and id, where the id names the participant
 abbrev pub pair_by : Option OpId → ℕ → ℕ → List (ℕ × OpId)

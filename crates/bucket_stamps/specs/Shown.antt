@@ -10,7 +10,8 @@ use Rattle.bucket_stamps.specs.declared.view.Turn.{Turn}
 use Rattle.bucket_stamps.specs.declared.view.History.{History}
 use Rattle.bucket_stamps.specs.declared.view.Part.{Part}
 use Rattle.bucket_stamps.specs.declared.view.View.{View}
-use Rattle.bucket_stamps.specs.Own.{pairs_from, turns_of, participant_of, numbers_below, NeverFall, IsWithin, IsSettled, IsLineOfOne, IsTurnOfOne}
+use Rattle.nb_base.specs.Ids.{participant_of}
+use Rattle.bucket_stamps.specs.Own.{pairs_from, turns_of, numbers_below, NeverFall, IsWithin, IsSettled, IsLineOfOne, IsTurnOfOne}
 use Rattle.bucket_stamps.specs.Views.{newcomer, met, owns, owns_all, turn_by, with_turn}
 use Rattle.bucket_stamps.specs.Kept.{AgreesWith}
 

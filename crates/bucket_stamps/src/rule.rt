@@ -1,7 +1,7 @@
 //! The rule of a stamp word, and the kinds of step that keep it.
 ghost use Rattle.std.specs.Prelude.{◌≡◌, ◌<◌, ◌∷◌, [], true, IfSome, IsSome, None, Some};
 ghost use Rattle.std.specs.Option.{option_map};
-ghost use Rattle.bucket_stamps.specs.Own.{participant_of};
+ghost use Rattle.nb_base.specs.Ids.{participant_of};
 ghost use Rattle.bucket_stamps.specs.Views.{first_view, spent, one_more, comes_in, takes_in, who_stays, who_goes, writes, writes_by, turned, participant_in};
 ghost use Rattle.bucket_stamps.specs.Kept.{Kept, LookTells};
 

@@ -6,7 +6,8 @@ use Rattle.std.proofs.lemmas.Bool.Decides.{nat_tests}
 use Rattle.std.proofs.lemmas.List.{length-append, length-map}
 use Rattle.std.proofs.lemmas.List.FromFn.{length-map-range_with_len}
 use Rattle.std.proofs.lemmas.List.Sums.{sum_by-cons}
-use Rattle.nb_base.specs.Params.{InRange, default_params}
+use Rattle.nb_base.specs.Params.{default_params}
+use Rattle.nb_base.proofs.Defaults.{default_in_range}
 use Rattle.pcap_records.specs.Writing.{IsFrame, NeverFalls, BeginsAtZero, AreFrames, moments_of}
 use Rattle.neigh_script.specs.Context.{shows_in}
 use Rattle.neigh_script.specs.Parameter.{parameters}
@@ -67,9 +68,6 @@ in_order x a (suc n) at h = (h, in_order x (a + 1) n (5 * a) (omega arith))
 no_shows : (x a n : ℕ) → sum_by shows_in (map (sent_at x) (range_with_len a n)) ≡ 0
 no_shows x a zero = refl
 no_shows x a (suc n) = omega (arith, sum_by-cons shows_in (sent_at x a) (map (sent_at x) (range_with_len (a + 1) n)), no_shows x (a + 1) n)
-
-default_in_range : InRange default_params
-default_in_range = search rules
 
 each_written : (x a n : ℕ) → AllByRecursion IsScriptItem (map (sent_at x) (range_with_len a n))
 each_written x a zero = tt

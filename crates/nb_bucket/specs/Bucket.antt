@@ -13,8 +13,9 @@ use Rattle.nb_journal.specs.Lawful.{last_moment, IsNextDue, IsSweepMoment, sweep
 use Rattle.nb_journal.specs.Accounts.{timer_line}
 use Rattle.nb_bucket.specs.declared.fail.BucketFail.{BucketFail}
 use Rattle.nb_bucket.specs.declared.fail.BucketFail.TheVariants.{JournalFull, Memory}
--- the most lines that a bucket may have
+-- the most lines that a bucket may have, and that a journal is lawful at a clock, or was broken off at it by a refused call
 pub use Rattle.nb_journal.specs.Accounts.{most_lines}
+pub use Rattle.nb_journal.specs.Lawful.{Stands, Lawful, BrokenOff}
 
 -- a bucket is seen as its journal, with its clock, its parameters and the most lines that it may have
 pub record Journal : Type 0 where
@@ -22,11 +23,6 @@ pub record Journal : Type 0 where
   pub limit : ℕ
   pub lines : List Line
   pub clock : ℕ
-
--- the journal is lawful at the clock, or was broken off at it by a refused call
-pub data Stands (p : Params) (lines : List Line) (clock : ℕ) : Type 0 where
-  Lawful : IsLawful p lines clock → Stands p lines clock
-  BrokenOff : IsBrokenOff p lines clock → Stands p lines clock
 
 -- ---- lines that come by time
 

@@ -252,3 +252,8 @@ pub record IsBrokenOff (p : Params) (journal : List Line) (clock : ℕ) : Type 0
   pub none_overdue : NothingOverdue p journal clock
   pub sweeps : (u : ℕ) → IsSweepMoment p u → u < clock → HasSweep u journal
   pub no_sweep_yet : HasSweep clock journal → ⊥
+
+-- the journal is lawful at the clock, or was broken off at it by a refused call
+pub data Stands (p : Params) (journal : List Line) (clock : ℕ) : Type 0 where
+  Lawful : IsLawful p journal clock → Stands p journal clock
+  BrokenOff : IsBrokenOff p journal clock → Stands p journal clock

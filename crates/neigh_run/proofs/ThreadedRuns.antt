@@ -13,7 +13,8 @@ use Rattle.nb_base.specs.declared.outcome.Why.TheVariants as why
 use Rattle.nb_base.specs.declared.outcome.Outcome.TheVariants as outcome
 use Rattle.nb_base.specs.declared.host_line.HostLine.TheVariants as host_line
 use Rattle.nb_base.specs.declared.plan.ControlItem.TheVariants as control
-use Rattle.nb_base.specs.Params.{default_params, InRange}
+use Rattle.nb_base.specs.Params.{default_params}
+use Rattle.nb_base.proofs.Defaults.{default_in_range}
 use Rattle.nud_machine.specs.State.{State}
 use Rattle.nud_machine.specs.Record.{unusable}
 use Rattle.nb_journal.specs.Keys.{is_key, has_key}
@@ -38,24 +39,6 @@ use Rattle.neigh_run.specs.Threaded.{IsThreadedRun}
 use Rattle.neigh_run.proofs.ThreadedRows.{k1, mac_a, header, send, plan_with, add_line, send_line, mark, slow, fast, suspect, run_of, permanent, two_sends, log_at, two_marks, stale, stale_sends, three_marks, own_number, own_sends, own_marks}
 
 -- ---- what the rows have in common
-
-pub default_in_range : InRange default_params
-default_in_range = record {
-  gc_thresh1 = (omega arith, omega arith);
-  gc_thresh2 = (omega arith, omega arith);
-  gc_thresh3 = (omega arith, omega arith);
-  gc_interval = (omega arith, omega arith);
-  gc_stale_time = (omega arith, omega arith);
-  locktime = (omega arith, omega arith);
-  retrans_time = (omega arith, omega arith);
-  base_reachable_time = (omega arith, omega arith);
-  delay_first_probe_time = (omega arith, omega arith);
-  mcast_solicit = (omega arith, omega arith);
-  ucast_solicit = (omega arith, omega arith);
-  proxy_delay = (omega arith, omega arith);
-  proxy_qlen = (omega arith, omega arith);
-  unres_qlen_bytes = (omega arith, omega arith);
-}
 
 -- what is due of the one key is due of all
 nothing_due : (lines : List Line) (clock : ℕ) → known_keys lines ≡ k1 ∷ [] → IfSome (due_of default_params lines k1) (λ due. clock < due) → NothingDue default_params lines clock

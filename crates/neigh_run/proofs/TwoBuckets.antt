@@ -29,7 +29,8 @@ use Rattle.neigh_run.specs.Plan.{RisesFrom}
 use Rattle.neigh_run.specs.Windows.{windows, length_at}
 use Rattle.neigh_run.specs.Threaded.{IsThreadedRun}
 use Rattle.neigh_run.proofs.ThreadedRows.{mac_a, host}
-use Rattle.neigh_run.proofs.ThreadedRuns.{default_in_range, nil_lawful}
+use Rattle.nb_base.proofs.Defaults.{default_in_range}
+use Rattle.neigh_run.proofs.ThreadedRuns.{nil_lawful}
 
 -- ---- what both have in common
 

@@ -1,5 +1,5 @@
 -- The operations of a plan, in the order in which an inline run enters them.
-use Rattle.std.specs.Prelude.{ℕ, ◌+◌, ◌*◌, ◌%◌, Bool, true, false, nat_le, ◌==◌, if◌then◌else◌, List, [], ◌∷◌, ◌++◌, fold, filter, length, sum_by, Option}
+use Rattle.std.specs.Prelude.{ℕ, ◌+◌, Bool, true, false, nat_le, ◌==◌, if◌then◌else◌, List, [], ◌∷◌, ◌++◌, fold, filter, length, sum_by, Option}
 use Rattle.std.specs.Option.{option_map, option_map_or, option_to_list}
 use Rattle.nb_base.specs.declared.time.OpId.{OpId}
 use Rattle.nb_base.specs.declared.op.Op.{Op}
@@ -9,6 +9,7 @@ use Rattle.nb_base.specs.declared.plan.SendItem.{SendItem}
 use Rattle.nb_base.specs.declared.plan.ControlItem.{ControlItem}
 use Rattle.nb_base.specs.declared.plan.ControlItem.TheVariants as control
 use Rattle.nb_base.specs.Buckets.{bucket_of}
+use Rattle.nb_base.specs.Ids.{op_id}
 use Rattle.nb_journal.specs.Keys.{key_of, is_send}
 use Rattle.neigh_run.specs.Control.{HostState, host_start, turn, control_at}
 
@@ -20,11 +21,7 @@ pub record Entered : Type 0 where
 
 -- the id of participant p's n-th item, counted from 1
 abbrev pub id_for : ℕ → ℕ → OpId
-id_for p n = record { 0 = 32 * n + p }
-
--- the participant whose item an id names
-abbrev pub participant_of : OpId → ℕ
-participant_of id = id.0 % 32
+id_for p n = op_id n p
 
 -- the operation of participant 0's item of number n, in the state before it
 abbrev pub control_op : Plan → HostState → ℕ → ControlItem → Option Entered

@@ -18,7 +18,8 @@ use Rattle.change_order.specs.Orders.{HaveOneOrder}
 use Rattle.journal_counts.specs.Counts.{counts_of}
 use Rattle.neigh_run.specs.declared.run.Run.{Run}
 use Rattle.neigh_run.specs.Control.{host_start}
-use Rattle.neigh_run.specs.Merged.{Entered, id_for, participant_of, packet_op, goes_to, control_ops}
+use Rattle.nb_base.specs.Ids.{participant_of}
+use Rattle.neigh_run.specs.Merged.{Entered, id_for, packet_op, goes_to, control_ops}
 use Rattle.neigh_run.specs.Inline.{journal_at, placed_at, host_lines_of}
 use Rattle.neigh_run.specs.Windows.{length_at, last_start, own_length, next_length, AreMarks}
 use Rattle.neigh_run.specs.Bounds.{Handled, number_at, known_number, IsBounded, is_first, is_inline}

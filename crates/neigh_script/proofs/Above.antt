@@ -8,7 +8,8 @@ use Rattle.neigh_script.specs.declared.script.Script.{Script}
 use Rattle.std.specs.List.{AllByRecursion}
 use Rattle.std.proofs.lemmas.List.Sums.{sum_by-append}
 use Rattle.nb_base.specs.declared.host.Host.{Host}
-use Rattle.nb_base.specs.Params.{InRange, default_params}
+use Rattle.nb_base.specs.Params.{default_params}
+use Rattle.nb_base.proofs.Defaults.{default_in_range}
 use Rattle.text_codes.proofs.Each.{Each-append}
 use Rattle.neigh_script.specs.declared.context.Context.{Context}
 use Rattle.neigh_script.specs.declared.script.ScriptItem.{ScriptItem}
@@ -78,24 +79,6 @@ append-none (x ∷ items) = ap (λ (xs : List ScriptItem). x ∷ xs) (append-non
 pub line_above : (c next : Context) (items : List ScriptItem) (item : Option ScriptItem) → AreAbove c items → IsLineBehind c next item → AreAbove next (items ++ option_to_list item)
 line_above c next items None above line = subst (λ (xs : List ScriptItem). AreAbove next xs) (append-none items) (head_above c next items (is_some c.last) refl above line)
 line_above c next items (Some item) above line = subst (λ (n : Context). AreAbove n (items ++ item ∷ [])) (sym line.0) (item_above c items item above line.1)
-
-default_in_range : InRange default_params
-default_in_range = record {
-  gc_thresh1 = (omega arith, omega arith);
-  gc_thresh2 = (omega arith, omega arith);
-  gc_thresh3 = (omega arith, omega arith);
-  gc_interval = (omega arith, omega arith);
-  gc_stale_time = (omega arith, omega arith);
-  locktime = (omega arith, omega arith);
-  retrans_time = (omega arith, omega arith);
-  base_reachable_time = (omega arith, omega arith);
-  delay_first_probe_time = (omega arith, omega arith);
-  mcast_solicit = (omega arith, omega arith);
-  ucast_solicit = (omega arith, omega arith);
-  proxy_delay = (omega arith, omega arith);
-  proxy_qlen = (omega arith, omega arith);
-  unres_qlen_bytes = (omega arith, omega arith);
-}
 
 -- above the first line
 pub start_above : AreAbove start []

@@ -1,6 +1,6 @@
 ghost use Rattle.std.specs.Prelude.{◌≡◌, ◌+◌, [], ◌∷◌, None, Some, length};
 ghost use Rattle.std.specs.Thread.{IsSync};
-ghost use Rattle.bucket_stamps.specs.Own.{participant_of};
+ghost use Rattle.nb_base.specs.Ids.{participant_of};
 ghost use Rattle.bucket_stamps.specs.Views.{newcomer};
 ghost use Rattle.bucket_stamps.specs.Shown.{stamp_of, new_stamper};
 ghost use Rattle.token_tests.specs.Entering.{HasEntered};
