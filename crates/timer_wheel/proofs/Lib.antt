@@ -4,3 +4,4 @@ mod Slotted
 mod Timing
 mod Settling
 mod Visiting
+pub mod Leasts

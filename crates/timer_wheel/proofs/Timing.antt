@@ -96,7 +96,7 @@ none_more zero n = refl
 none_more (suc k) zero = refl
 none_more (suc k) (suc n) = none_more k n
 
-due_more : (dues : List (Option ℕ)) (k n : ℕ) → due_of (dues ++ replicate k None) n ≡ due_of dues n
+pub due_more : (dues : List (Option ℕ)) (k n : ℕ) → due_of (dues ++ replicate k None) n ≡ due_of dues n
 due_more [] k n = none_more k n
 due_more (d ∷ dues) k zero = refl
 due_more (d ∷ dues) k (suc n) = due_more dues k n

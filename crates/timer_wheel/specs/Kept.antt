@@ -1,8 +1,8 @@
 -- The lists of nodes in the slots, and the marks of the slots, for the proofs alone (this project's own).
-use Rattle.std.specs.Prelude.{◌≡◌, ℕ, ◌+◌, ◌*◌, ◌≤◌, ◌<◌, ◌^◌, true, List, [], ◌∷◌, length, Option, Some}
-use Rattle.std.specs.Option.{option_map, unwrap_or}
+use Rattle.std.specs.Prelude.{◌≡◌, ℕ, ◌+◌, ◌*◌, ◌≤◌, ◌<◌, ◌^◌, Bool, true, ◌==◌, ◌&&◌, ◌||◌, ltb, List, [], ◌∷◌, length, Option, Some, IfSome}
+use Rattle.std.specs.Option.{option_map, unwrap_or, MatchOption}
 use Rattle.slot_links.specs.Lists.{Linked, has, list_at, holder, StandOnce}
-use Rattle.timer_wheel.specs.Map.{due_of}
+use Rattle.timer_wheel.specs.Map.{Timers, due_of, NoneArmed, IsLeast}
 use Rattle.timer_wheel.specs.Marked.{mark_of}
 use Rattle.timer_wheel.specs.Places.{slot_of}
 
@@ -40,3 +40,14 @@ rank_of dues node = unwrap_or (due_of dues node) 0 * 2 ^ 32 + node
 pub record IsLeastOf (dues : List (Option ℕ)) (nodes : List ℕ) (node : ℕ) : Type 0 where
   pub there : has node nodes ≡ true
   pub least : (other : ℕ) → has other nodes ≡ true → rank_of dues node ≤ rank_of dues other
+
+-- ---- the least at hand
+
+-- the first of the pairs of due and node comes before the other: by its due, and at equal dues by its node
+abbrev pub is_earlier : ℕ × ℕ → ℕ × ℕ → Bool
+is_earlier one other = ltb one.0 other.0 || (one.0 == other.0 && ltb one.1 other.1)
+
+-- the least due with its node, or that no node is armed
+pub record KnowsLeast (timers : Timers) (known : Option (ℕ × ℕ)) : Type 0 where
+  pub least : MatchOption known (NoneArmed timers.dues) (λ r. IsLeast timers.dues r.0 r.1)
+  pub ahead : IfSome known (λ r. timers.now ≤ r.0)

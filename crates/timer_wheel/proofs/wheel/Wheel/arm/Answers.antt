@@ -1,25 +1,11 @@
-use Rattle.std.proofs.Common.{rules, ◌≡◌, ◌<◌, ◌≤◌, length, Some, ap, sym, subst, ◌∙◌}
-use Rattle.std.specs.Prelude.{slice_set}
-use Rattle.slot_links.specs.Lists.{Linked, holder, put_back}
-use Rattle.slot_links.proofs.Callers.{holder-take_out_itself}
-use Rattle.timer_wheel.specs.Kept.{Keeps}
-use Rattle.timer_wheel.specs.Places.{slot_of}
-use Rattle.timer_wheel.proofs.Timing.{armed}
+use Rattle.std.proofs.Common.{rules, sym, subst}
+use Rattle.timer_wheel.specs.Kept.{KnowsLeast}
+use Rattle.timer_wheel.proofs.Leasts.{knows_armed}
 use Rattle.timer_wheel.proofs.wheel.Wheel.arm.Goals as goal
-
-pub put-requires-clause-none : goal.put-requires-clause-none
-put-requires-clause-none c = ap (λ (s : Linked). holder s.lists c.args.node) c.take.ensures.lists ∙ holder-take_out_itself c.self.inside.slots.lists c.args.node
+use Rattle.timer_wheel.proofs.wheel.Wheel.arm.Goals.{in-Some, in_default}
 
 pub invariant_of-self : goal.invariant_of-self
-invariant_of-self c =
-    let slots = c.self.inside.slots in
-    let dues = c.self.inside.dues.items in
-    let due = c.due.inside.0 in
-    let small : c.args.node < length dues = search rules in
-    let later : c.self.inside.moment ≤ due = search rules in
-    let fits : due < 18446744073709551616 = search rules in
-    let is : c.slot_of.result ≡ slot_of c.self.inside.moment due = c.slot_of.ensures.slot in
-    let now = armed c.self.inside.moment dues slots c.args.node c.self.invariant small due c.slot_of.result later fits is c.slot_of.ensures.within in
-    let whole = c.put.ensures ∙ ap (λ (s : Linked). (let made : Linked = record { lists = put_back s.lists c.slot_of.result c.args.node; nodes = s.nodes } in made)) c.take.ensures.lists in
-    let F : Linked → Type 0 = λ s. Keeps c.self.inside.moment (slice_set dues c.args.node (Some due)) s in
-    subst F (sym whole) now
+invariant_of-self c = elim c.match-self.branch [
+  | in-Some w ↦ subst (KnowsLeast c.arm.new.self) (sym w.self-is) (knows_armed c.self.inside.armed c.arm.new.self c.args.node c.args.due w.in-Some.at w.in-Some.least c.self.inside.least (search rules) (search rules) c.arm.ensures c.self.invariant w.in-Some.is w.if-least-node.true w.earlier.result w.earlier.ensures)
+  | in_default w ↦ subst (KnowsLeast c.arm.new.self) (sym w.self-is) (record { least = w.least-self-inside.ensures.least; ahead = w.least-self-inside.ensures.ahead })
+]

@@ -1,6 +1,6 @@
 use Rattle.std.proofs.Common.{◌≡◌, ◌+◌, ◌≤◌, ◌++◌, None, vec_len, vec_capacity}
 use Rattle.std.specs.Prelude.{replicate}
-use Rattle.timer_wheel.proofs.wheel.add_unarmed.Given as goal
+use Rattle.timer_wheel.proofs.armed.add_unarmed.Given as goal
 
 abbrev pub invariant-loop : goal.invariant-loop
 invariant-loop l = record {

@@ -1,6 +1,6 @@
 use Rattle.std.proofs.Common.{arith}
 use Rattle.timer_wheel.proofs.Digits.{slot_ends, slot_steps, slot_at_last}
-use Rattle.timer_wheel.proofs.wheel.slot_of.Goals as goal
+use Rattle.timer_wheel.proofs.armed.slot_of.Goals as goal
 
 pub returns-then-here-there-clause-slot : goal.returns-then-here-there-clause-slot
 returns-then-here-there-clause-slot c = slot_ends c.loop-level.level c.loop-level.here c.loop-level.there c.args.now c.args.due c.loop-level-test.true c.loop-level.invariant.1 c.if-here-there.true

@@ -3,7 +3,7 @@ use Rattle.std.specs.Prelude.{slice_set}
 use Rattle.slot_links.specs.Lists.{Linked}
 use Rattle.timer_wheel.specs.Kept.{Keeps}
 use Rattle.timer_wheel.proofs.Timing.{cancelled}
-use Rattle.timer_wheel.proofs.wheel.Wheel.cancel.Goals as goal
+use Rattle.timer_wheel.proofs.armed.Armed.cancel.Goals as goal
 
 pub invariant_of-self : goal.invariant_of-self
 invariant_of-self c =

@@ -1,7 +1,7 @@
 use Rattle.std.proofs.Common.{length}
 use Rattle.slot_links.specs.Lists.{list_at}
 use Rattle.timer_wheel.proofs.Settling.{Spreads}
-use Rattle.timer_wheel.proofs.wheel.spread.Given as goal
+use Rattle.timer_wheel.proofs.armed.spread.Given as goal
 
 abbrev pub invariant-loop-node : goal.invariant-loop-node
 invariant-loop-node l = Spreads l.now l.to l.slot l.dues l.slots

@@ -6,7 +6,7 @@ use Rattle.timer_wheel.specs.Map.{due_of}
 use Rattle.timer_wheel.specs.Places.{slot_of}
 use Rattle.timer_wheel.proofs.Slotted.{none_at}
 use Rattle.timer_wheel.proofs.Settling.{spreads_first, spreads_last, is_within, goes, settled_low}
-use Rattle.timer_wheel.proofs.wheel.spread.Goals as goal
+use Rattle.timer_wheel.proofs.armed.spread.Goals as goal
 
 pub loop-node-init : goal.loop-node-init
 loop-node-init c = spreads_first c.args.now c.args.to c.slot_of-slot.result c.args.dues.now c.args.slots.now c.requires.keeps c.requires.later c.slot_of-slot.ensures.slot c.requires.none

@@ -4,7 +4,7 @@ use Rattle.slot_links.specs.Lists.{list_at}
 use Rattle.timer_wheel.specs.Map.{due_of, NoneArmed, IsLeast}
 use Rattle.timer_wheel.specs.Kept.{IsFirstSlot, IsLeastOf}
 use Rattle.timer_wheel.proofs.Visiting.{of_some, of_none, none_armed, least_is}
-use Rattle.timer_wheel.proofs.wheel.Wheel.next.Goals as goal
+use Rattle.timer_wheel.proofs.armed.Armed.least.Goals as goal
 
 pub returns-in_err-slot-clause-least : goal.returns-in_err-slot-clause-least
 returns-in_err-slot-clause-least c =

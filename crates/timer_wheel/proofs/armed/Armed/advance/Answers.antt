@@ -1,6 +1,6 @@
 use Rattle.std.proofs.Common.{rules, ◌≡◌, ◌≤◌, ℕ, List, Option, Some, subst}
 use Rattle.timer_wheel.specs.Map.{due_of}
-use Rattle.timer_wheel.proofs.wheel.Wheel.settle.Goals as goal
+use Rattle.timer_wheel.proofs.armed.Armed.advance.Goals as goal
 
 pub spread-requires-clause-none : goal.spread-requires-clause-none
 spread-requires-clause-none c =

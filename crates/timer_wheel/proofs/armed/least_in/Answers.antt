@@ -1,7 +1,7 @@
 use Rattle.std.proofs.Common.{rules, ◌≡◌, None, refl}
 use Rattle.slot_links.specs.Lists.{list_at, next_of}
 use Rattle.timer_wheel.proofs.Visiting.{first_in, front_in, visits_first, visits_on, visits_last, is_there, nearer}
-use Rattle.timer_wheel.proofs.wheel.least_in.Goals as goal
+use Rattle.timer_wheel.proofs.armed.least_in.Goals as goal
 
 pub next-at-requires : goal.next-at-requires
 next-at-requires c = (c.requires.once.held c.args.slot c.args.first (first_in (list_at c.args.slots.now.lists c.args.slot) c.args.first c.requires.first)).0
