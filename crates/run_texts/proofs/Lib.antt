@@ -8,8 +8,13 @@ pub mod Outcomes
 pub mod Marks
 pub mod Whole
 pub mod Inline
-pub mod Writable
-pub mod InlineTexts
-pub mod Worked
 pub mod Alone
+pub mod Participants
 pub mod Threaded
+pub mod Played
+pub mod Writable
+pub mod InlineWritable
+pub mod ThreadedWritable
+pub mod Texts
+pub mod Worked
+pub mod TwoOrders

@@ -1,9 +1,7 @@
 -- A run with a thread for each participant is told by its text.
-use Rattle.std.proofs.Common.{◌≡◌, ℕ, zero, suc, ◌+◌, ◌*◌, ◌^◌, ◌<◌, ◌≤◌, Bool, true, false, if◌then◌else◌, List, [], ◌∷◌, ◌++◌, length, map, take, refl, sym, ◌∙◌, ap, subst, arith, length-append, eq-eqb}
-use Rattle.std.specs.Prelude.{◌==◌, Option, Some, None, IfSome, filter, unwrap_or, slice_index_or}
-use Rattle.std.specs.Option.{option_map_or}
-use Rattle.std.specs.List.{AllByRecursion, AllZip}
-use Rattle.std.proofs.lemmas.Bool.{eqb-true, false≢true}
+use Rattle.std.proofs.Common.{◌≡◌, ℕ, zero, suc, ◌+◌, ◌*◌, ◌^◌, ◌<◌, ◌≤◌, Bool, true, false, if◌then◌else◌, List, [], ◌∷◌, ◌++◌, length, map, take, refl, sym, ◌∙◌, ap, subst, arith, length-append}
+use Rattle.std.specs.Prelude.{Option, Some, None, IfSome, unwrap_or, slice_index_or}
+use Rattle.std.specs.List.{AllByRecursion}
 use Rattle.std.proofs.lemmas.List.{length-take}
 use Rattle.std.proofs.lemmas.List.Folds.{fold-map}
 use Rattle.std.proofs.lemmas.Option.{slice_get_within}
@@ -18,7 +16,6 @@ use Rattle.nb_base.specs.declared.outcome.Why.TheVariants as why
 use Rattle.nb_base.specs.declared.outcome.Outcome.{Outcome}
 use Rattle.nb_base.specs.declared.outcome.Outcome.TheVariants as outcome
 use Rattle.nb_base.specs.declared.host_line.Mark.{Mark}
-use Rattle.nb_base.specs.declared.plan.Mode.TheVariants as mode
 use Rattle.nb_base.specs.declared.plan.Plan.{Plan}
 use Rattle.nb_base.specs.declared.plan.SendItem.{SendItem}
 use Rattle.nb_base.specs.Buckets.{bucket_of}
@@ -31,107 +28,39 @@ use Rattle.nb_journal.proofs.Publishes.{published-nil, published-snoc}
 use Rattle.change_order.specs.Orders.{HaveOneOrder}
 use Rattle.journal_counts.specs.Counts.{counts_of}
 use Rattle.neigh_run.specs.declared.run.Run.{Run}
-use Rattle.neigh_run.specs.Control.{host_start}
-use Rattle.neigh_run.specs.Merged.{Entered, participant_of, goes_to, control_ops, sender_ops, senders_ops}
 use Rattle.neigh_run.specs.Inline.{journal_at}
 use Rattle.neigh_run.specs.Plan.{RisesFrom, IsWithinLimits}
 use Rattle.neigh_run.specs.Windows.{length_at, last_lengths, last_start, mark_starts, own_length, next_length}
 use Rattle.neigh_run.specs.Bounds.{Handled, number_at, known_number, IsInBounds, IsBounded}
-use Rattle.neigh_run.specs.Threaded.{EachJournal, EachSender, IsLawfulAtMarks, is_line_of, Standing, lines_of, IsLineFor, HasLinesFor, slow_ops, HasItsLines, handled, each_packet, HasItsPlace, HasReadInBounds}
-use Rattle.neigh_run.proofs.Counting.{Each}
-use Rattle.run_texts.specs.Told.{Small, plan_ops, ops_numbered, IsNamedLine, IsToldJournal, IsToldOutcome, EachOutcome, AreToldLogs, last_of}
-use Rattle.run_texts.specs.Laws.{ThreadedRunsAreTold, TextsTellThreadedRuns}
+use Rattle.neigh_run.specs.Threaded.{EachJournal, EachSender, IsLawfulAtMarks, HasItsLines, handled, each_packet, HasItsPlace, HasReadInBounds}
+use Rattle.run_texts.specs.Told.{Small, ops_numbered, IsNamedLine, IsToldJournal, IsToldOutcome, EachOutcome, AreToldLogs, last_of}
+use Rattle.run_texts.specs.Laws.{ThreadedRunsAreTold}
 use Rattle.run_texts.proofs.Named.{IsNamed, ops-named}
-use Rattle.run_texts.proofs.Inline.{each-filter}
+use Rattle.run_texts.proofs.Lists.{each_line-all}
+use Rattle.run_texts.proofs.Participants.{IsFrom, HasSource, each-source}
 use Rattle.run_texts.proofs.Alone.{order_alone}
-use Rattle.run_texts.proofs.Whole.{texts_tell_told}
 
 -- ---- lines that keep to the plan
-
-each-front : (P : Entered → Type 0) (xs ys : List Entered) → Each P (xs ++ ys) → Each P xs
-each-front P [] ys h = tt
-each-front P (x ∷ xs) ys h = (h.0, each-front P xs ys h.1)
-
-each-back : (P : Entered → Type 0) (xs ys : List Entered) → Each P (xs ++ ys) → Each P ys
-each-back P [] ys h = h
-each-back P (x ∷ xs) ys h = each-back P xs ys h.1
-
-each-slow : (P : Entered → Type 0) (p n : ℕ) (items : List SendItem) (log : List Outcome) → Each P (sender_ops p n items) → Each P (slow_ops p n items log)
-each-slow P p n [] log h = tt
-each-slow P p n (item ∷ items) [] h = tt
-each-slow P p n (item ∷ items) (outcome.Fast number header ∷ log) h = each-slow P p (n + 1) items log h.1
-each-slow P p n (item ∷ items) (outcome.Slow why place reply ∷ log) h = (h.0, each-slow P p (n + 1) items log h.1)
 
 by_id : (plan : Plan) (line : Line) (id : OpId) → line.id ≡ Some id → (ops_numbered plan id ≡ line.op ∷ []) × Small id.0 → IsNamedLine plan line
 by_id plan line id e h = subst (λ (o : Option OpId). IfSome o (λ id. (ops_numbered plan id ≡ line.op ∷ []) × Small id.0)) (sym e) h
 
--- a participant's lines are those of named operations
-zip-named : (plan : Plan) (marks : List Mark) (b : ℕ) (ss : List Standing) (xs : List Entered) → AllZip (IsLineFor plan marks b) ss xs → Each (IsNamed plan) xs → AllByRecursion (λ (s : Standing). IsNamedLine plan s.line) ss
-zip-named plan marks b [] [] h g = tt
-zip-named plan marks b [] (x ∷ xs) h g = absurd h
-zip-named plan marks b (s ∷ ss) [] h g = absurd h
-zip-named plan marks b (s ∷ ss) (x ∷ xs) h g = (
-  by_id plan s.line x.id h.0.id (g.0.named ∙ ap (λ o. o ∷ []) (sym h.0.op), g.0.small),
-  zip-named plan marks b ss xs h.1 g.1,
-)
+-- a line of a named operation is named
+source-named : (plan : Plan) (marks : List Mark) (b : ℕ) (past : List Line) (line : Line) → HasSource plan marks b (IsNamed plan) past line → IsNamedLine plan line
+source-named plan marks b past line h = by_number line.id refl h where
+  by_number : (o : Option OpId) → line.id ≡ o → IfSome o (λ id. IsFrom plan marks b (IsNamed plan) (record { past = past; line = line })) → IfSome o (λ id. (ops_numbered plan id ≡ line.op ∷ []) × Small id.0)
+  by_number None e h = tt
+  by_number (Some id) e h =
+      subst (λ (o : Option OpId). IfSome o (λ id. (ops_numbered plan id ≡ line.op ∷ []) × Small id.0)) e
+      (by_id plan line h.0.id h.1.id (h.2.named ∙ ap (λ o. o ∷ []) (sym h.1.op), h.2.small))
 
-abbrev HasNamedLines : Plan → List Line → ℕ → Type 0
-HasNamedLines plan journal p = AllByRecursion (λ (s : Standing). IsNamedLine plan s.line) (lines_of p [] journal)
-
-has-named : (plan : Plan) (marks : List Mark) (p : ℕ) (ops : List Entered) (b : ℕ) (journal : List Line) → HasLinesFor plan marks p ops b journal → Each (IsNamed plan) ops → HasNamedLines plan journal p
-has-named plan marks p ops b journal h g = zip-named plan marks b (lines_of p [] journal) (filter (λ entered. goes_to plan.buckets b entered.op) ops) h (each-filter (IsNamed plan) (λ entered. goes_to plan.buckets b entered.op) ops g)
-
-above : (p q : ℕ) → (p == q) ≡ false → q ≤ p → q + 1 ≤ p
-above p q e le = strict (λ same. false≢true (sym e ∙ eq-eqb p q same)) where
-  strict : (p ≡ q → ⊥) → q + 1 ≤ p
-  strict d = omega (arith, le, d)
-
-senders-named : (plan : Plan) (marks : List Mark) (b : ℕ) (journal : List Line) (q : ℕ) (senders : List (List SendItem)) (logs : List (List Outcome))
-    → EachSender (λ p items log. HasLinesFor plan marks p (slow_ops p 1 items log) b journal) q senders logs → Each (IsNamed plan) (senders_ops q senders)
-    → (p : ℕ) → q ≤ p → p < q + length senders → HasNamedLines plan journal p
-senders-named plan marks b journal q [] logs h g p le lt = absurd (omega (arith, le, lt))
-senders-named plan marks b journal q (items ∷ senders) [] h g p le lt = absurd h
-senders-named plan marks b journal q (items ∷ senders) (log ∷ logs) h g p le lt = by_test (p == q) refl (senders-named plan marks b journal (q + 1) senders logs h.1 (each-back (IsNamed plan) (sender_ops q 1 items) (senders_ops (q + 1) senders) g) p) where
-  by_test : (t : Bool) → (p == q) ≡ t → (q + 1 ≤ p → p < q + 1 + length senders → HasNamedLines plan journal p) → HasNamedLines plan journal p
-  by_test true e rest = subst (HasNamedLines plan journal) (sym (eqb-true p q e)) (has-named plan marks q (slow_ops q 1 items log) b journal h.0 (each-slow (IsNamed plan) q 1 items log (each-front (IsNamed plan) (sender_ops q 1 items) (senders_ops (q + 1) senders) g)))
-  by_test false e rest = rest (above p q e le) (omega (arith, lt))
-
-each-participant : (plan : Plan) (run : Run) (b : ℕ) (journal : List Line) → IsWithinLimits plan → HasItsLines plan run b journal → (p : ℕ) → p ≤ length plan.senders → HasNamedLines plan journal p
-each-participant plan run b journal limits h p le = by_test (p == 0) refl where
-  all : Each (IsNamed plan) (plan_ops plan)
-  all = ops-named plan limits
-
-  zero_le : 0 ≤ p
-  zero_le = omega arith
-
-  by_test : (t : Bool) → (p == 0) ≡ t → HasNamedLines plan journal p
-  by_test true e = subst (HasNamedLines plan journal) (sym (eqb-true p 0 e)) (has-named plan run.marks 0 (control_ops plan host_start 1 plan.control) b journal h.control (each-front (IsNamed plan) (control_ops plan host_start 1 plan.control) (senders_ops 1 plan.senders) all))
-  by_test false e = let more = above p 0 e zero_le in senders-named plan run.marks b journal 1 plan.senders run.logs h.senders (each-back (IsNamed plan) (control_ops plan host_start 1 plan.control) (senders_ops 1 plan.senders) all) p (omega (arith, more)) (omega (arith, le))
-
-all-back : {A : Type 0} (P : A → Type 0) (xs ys : List A) → AllByRecursion P (xs ++ ys) → AllByRecursion P ys
-all-back P [] ys h = h
-all-back P (x ∷ xs) ys h = all-back P xs ys h.1
-
--- and every line is a participant's, or has no id
-lines-named : (plan : Plan) (k : ℕ) (past lines : List Line) → AllByRecursion (λ (line : Line). IfSome line.id (λ id. participant_of id ≤ k)) lines
-    → ((p : ℕ) → p ≤ k → AllByRecursion (λ (s : Standing). IsNamedLine plan s.line) (lines_of p past lines)) → AllByRecursion (IsNamedLine plan) lines
-lines-named plan k past [] only h = tt
-lines-named plan k past (l ∷ ls) only h = (
-  here l.id refl only.0,
-  lines-named plan k (past ++ l ∷ []) ls only.1 (λ p le. all-back (λ (s : Standing). IsNamedLine plan s.line) (if is_line_of p l then record { past = past; line = l } ∷ [] else []) (lines_of p (past ++ l ∷ []) ls) (h p le)),
-) where
-  mine : (p : ℕ) → is_line_of p l ≡ true → AllByRecursion (λ (s : Standing). IsNamedLine plan s.line) (lines_of p past (l ∷ ls)) → IsNamedLine plan l
-  mine p e all = (subst (λ (t : Bool). AllByRecursion (λ (s : Standing). IsNamedLine plan s.line) ((if t then record { past = past; line = l } ∷ [] else []) ++ lines_of p (past ++ l ∷ []) ls)) e all).0
-
-  here : (o : Option OpId) → l.id ≡ o → IfSome o (λ id. participant_of id ≤ k) → IfSome o (λ id. (ops_numbered plan id ≡ l.op ∷ []) × Small id.0)
-  here None e le = tt
-  here (Some id) e le =
-      subst (λ (o : Option OpId). IfSome o (λ id. (ops_numbered plan id ≡ l.op ∷ []) × Small id.0)) e
-      (mine (participant_of id) (ap (λ (o : Option OpId). option_map_or (λ (i : OpId). participant_of i == participant_of id) o false) e ∙ eq-eqb (participant_of id) (participant_of id) refl) (h (participant_of id) le))
+lines-named : (plan : Plan) (run : Run) (b : ℕ) (journal : List Line) → IsWithinLimits plan → HasItsLines plan run b journal → AllByRecursion (IsNamedLine plan) journal
+lines-named plan run b journal limits h =
+    each_line-all (HasSource plan run.marks b (IsNamed plan)) (IsNamedLine plan) [] journal (source-named plan run.marks b) (each-source (IsNamed plan) plan run b journal (ops-named plan limits) h)
 
 -- ---- journals
 
-last-is : (marks : List Mark) (os : List (Option ℕ)) → map (λ (mark : Mark). mark.start) marks ≡ os → last_start marks ≡ last_of os
+pub last-is : (marks : List Mark) (os : List (Option ℕ)) → map (λ (mark : Mark). mark.start) marks ≡ os → last_start marks ≡ last_of os
 last-is marks os e = sym (fold-map (λ (at : ℕ) (start : Option ℕ). unwrap_or start at) (λ (mark : Mark). mark.start) 0 marks) ∙ ap last_of e
 
 journals-told : (plan : Plan) (run : Run) (all : List (List Line)) (start b : ℕ) (js : List (List Line)) → IsWithinLimits plan → length all ≡ plan.buckets → b + length js ≡ length all
@@ -141,7 +70,7 @@ journals-told plan run all start b [] limits whole long order at lawful lines = 
 journals-told plan run all start b (j ∷ js) limits whole long order at lawful lines = (
   subst (λ s. IsToldJournal plan s j) at record {
     lawful = lawful.0.whole;
-    named = lines-named plan (length plan.senders) [] j lines.0.only (each-participant plan run b j limits lines.0);
+    named = lines-named plan run b j limits lines.0;
     alone = λ one. order_alone plan.params j (only js one (omega (arith, one, whole, long)) order);
   },
   journals-told plan run all start (b + 1) js limits whole (omega (arith, long)) (λ k one e first. absurd (omega (arith, first))) at lawful.1 lines.1,
@@ -278,6 +207,3 @@ threaded_told plan run limits h = record {
   marks = h.marks.starts_are;
   lengths = λ few. lengths-small run.journals run.marks few h.marks.rises h.marks.last;
 }
-
-pub threaded_runs_tell : TextsTellThreadedRuns
-threaded_runs_tell plan run other range named limits w h g text = texts_tell_told mode.Threads (mark_starts plan) plan run other range named w (threaded_told plan run limits h) (threaded_told plan other limits g) text

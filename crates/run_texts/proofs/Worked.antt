@@ -13,8 +13,7 @@ use Rattle.neigh_run.specs.Merged.{Entered}
 use Rattle.neigh_run.specs.Inline.{host_lines_of, IsInlineRun}
 use Rattle.neigh_run.specs.Report.{report_text}
 use Rattle.run_texts.specs.Told.{IsToldRun}
-use Rattle.run_texts.specs.Laws.{IsPlayable}
-use Rattle.run_texts.proofs.InlineTexts.{inline_runs_tell}
+use Rattle.run_texts.specs.Laws.{IsPlayable, TextsTellInlineRuns}
 
 defaults_in_range : InRange default_params
 defaults_in_range = record {
@@ -86,5 +85,5 @@ no_entry x xs e = cc
 not_inline : IsInlineRun look without_lines → ⊥
 not_inline h = no_entry (record { at = 5; id = record { 0 = 32 }; op = op.Show }) [] h.journals.0.entered
 
-other_text : (run : Run) → IsInlineRun look run → report_text run ≡ report_text without_lines → ⊥
-other_text run h text = not_inline (subst (IsInlineRun look) (inline_runs_tell look run without_lines look_playable h without_lines_told text) h)
+other_text : TextsTellInlineRuns → (run : Run) → IsInlineRun look run → report_text run ≡ report_text without_lines → ⊥
+other_text law run h text = not_inline (subst (IsInlineRun look) (law look run without_lines look_playable h without_lines_told text) h)

@@ -94,14 +94,15 @@ TextsTellInlineRuns =
 abbrev pub ThreadedRunsAreTold : Type 0
 ThreadedRunsAreTold = (plan : Plan) (run : Run) → IsWithinLimits plan → IsThreadedRun plan run → IsToldRun mode.Threads (mark_starts plan) plan run
 
--- so it is told from every other such run of the plan, where one of them can be written
+-- such a run of a plan that can be played can be written
+abbrev pub ThreadedRunsAreWritable : Type 0
+ThreadedRunsAreWritable = (plan : Plan) (run : Run) → IsPlayable plan → IsThreadedRun plan run → IsWritable run
+
+-- so two such runs of such a plan with one text are one
 abbrev pub TextsTellThreadedRuns : Type 0
 TextsTellThreadedRuns =
     (plan : Plan) (run other : Run)
-    → InRange plan.params
-    → is_name plan.host.dev ≡ true
-    → IsWithinLimits plan
-    → IsWritable run
+    → IsPlayable plan
     → IsThreadedRun plan run
     → IsThreadedRun plan other
     → report_text run ≡ report_text other
