@@ -6,7 +6,8 @@ use Rattle.std.proofs.lemmas.Bool.{cases_lt}
 use Rattle.std.proofs.lemmas.List.{ext_get_or, get_or_past, get_or-map, length-map}
 use Rattle.std.proofs.lemmas.List.Folds.{fold-map}
 use Rattle.nb_base.specs.declared.time.OpId.{OpId}
-use Rattle.bucket_stamps.specs.Own.{participant_of, IsLineOfOne}
+use Rattle.nb_base.specs.Ids.{participant_of}
+use Rattle.bucket_stamps.specs.Own.{IsLineOfOne}
 use Rattle.neigh_run.specs.Control.{host_start}
 use Rattle.run_evidence.proofs.Lists.{all_map}
 use Rattle.nb_base.specs.declared.line.Line.{Line}
@@ -20,11 +21,11 @@ use Rattle.neigh_run.specs.Windows.{starts, length_at, last_lengths, last_start}
 use Rattle.neigh_run.specs.Threaded.{EachJournal, EachSender, IsLawfulFrom, IsLawfulAtMarks, lines_of, IsLineFor, HasLinesFor, slow_ops, HasItsLines}
 use Rattle.std.specs.List.{AllZip}
 use Rattle.run_evidence.specs.Stamps.{StampHistory, marks_in, calls_in, AreStampHistories, IsBucketEvidence}
-use Rattle.run_evidence.specs.Evidence.{ParticipantRun, PacketDone, control_calls, sender_calls, all_deeds, stamp_window_at, history_at, Evidence, kept_at, column, run_of, AreSenderRuns, IsEvidence}
+use Rattle.run_evidence.specs.Evidence.{ParticipantRun, PacketDone, control_calls, sender_calls, all_done_items, stamp_window_at, history_at, Evidence, bucket_at, column, run_of, AreSenderRuns, IsEvidence}
 use Rattle.run_evidence.specs.Laws.{ShowsMarks, ShowsLawful, ShowsLines}
 use Rattle.run_evidence.proofs.Buckets.{last_told, kept_ends, kept_rises, IsMarkedLawful, kept_marked, last_opened, kept_whole}
-use Rattle.run_evidence.proofs.Windows.{trace_climbs}
-use Rattle.run_evidence.proofs.Matched.{entered_by, trace_lines}
+use Rattle.run_evidence.proofs.Windows.{history_climbs}
+use Rattle.run_evidence.proofs.Matched.{entered_by, history_lines}
 use Rattle.run_evidence.proofs.Projected.{calls_at, control_projected, sender_projected}
 
 -- ---- journals, one by one
@@ -78,10 +79,10 @@ some_mark os (mark ∷ marks) e = (mark, marks, refl)
 pub shows_marks : ShowsMarks
 shows_marks plan e some bucket h = record { starts_are = h.starts; buckets = h.lengths; rises = rises; last = last } where
   rises : (b : ℕ) → RisesFrom 0 (map (length_at b) e.marks)
-  rises b = ⊎_elim (λ (lt : b < plan.buckets). subst (RisesFrom 0) (numbers_column b e.marks) (kept_rises plan (column b e.marks) (kept_at b e) (h.kept b lt))) (λ (le : plan.buckets ≤ b). none_there plan.buckets b e.marks le h.lengths) (cases_lt b plan.buckets)
+  rises b = ⊎_elim (λ (lt : b < plan.buckets). subst (RisesFrom 0) (numbers_column b e.marks) (kept_rises plan (column b e.marks) (bucket_at b e) (h.each_bucket b lt))) (λ (le : plan.buckets ≤ b). none_there plan.buckets b e.marks le h.lengths) (cases_lt b plan.buckets)
 
   ends : (b : ℕ) → b < plan.buckets → last_told (column b e.marks) ≡ length (get_or e.journals b [])
-  ends b lt = kept_ends plan (column b e.marks) (kept_at b e) (h.kept b lt)
+  ends b lt = kept_ends plan (column b e.marks) (bucket_at b e) (h.each_bucket b lt)
 
   of_some : (mark : Mark) (rest : List Mark) → e.marks ≡ mark ∷ rest → last_lengths e.marks ≡ map length e.journals
   of_some mark rest is =
@@ -105,35 +106,35 @@ opened-start b marks = fold-map (λ (at : ℕ) (m : Option ℕ × ℕ). unwrap_o
 
 pub shows_lawful : ShowsLawful
 shows_lawful plan e some bucket h = each_journal (IsLawfulAtMarks plan.params e.marks) e.journals (λ b lt.
-    let kept = h.kept b (let all = h.buckets in omega (arith, lt, all)) in
+    let kept = h.each_bucket b (let all = h.buckets in omega (arith, lt, all)) in
     record {
-      marked = unmarked plan b (get_or e.journals b []) e.marks (kept_marked plan (column b e.marks) (kept_at b e) kept);
-      whole = subst (λ at. IsLawfulFrom plan.params at (get_or e.journals b [])) (opened-start b e.marks) (kept_whole plan (column b e.marks) (kept_at b e) kept);
+      marked = unmarked plan b (get_or e.journals b []) e.marks (kept_marked plan (column b e.marks) (bucket_at b e) kept);
+      whole = subst (λ at. IsLawfulFrom plan.params at (get_or e.journals b [])) (opened-start b e.marks) (kept_whole plan (column b e.marks) (bucket_at b e) kept);
     })
 
 -- ---- 3. operations' lines
 
 -- a sender's lines in a bucket
-senders_lines : (plan : Plan) (e : Evidence) (b p : ℕ) (lists : List (List SendItem)) (ways : List (ParticipantRun PacketDone)) → 0 < plan.window → IsEvidence plan e → IsBucketEvidence plan (column b e.marks) (kept_at b e)
-    → AreStampHistories plan (kept_at b e).journal (kept_at b e).turns p (map (history_at sender_calls b) ways) → AllByRecursion (λ (trace : StampHistory). marks_in plan trace ≡ column b e.marks) (map (history_at sender_calls b) ways)
-    → AreSenderRuns plan e.journals p lists ways
-    → EachSender (λ p items log. HasLinesFor plan e.marks p (slow_ops p 1 items log) b (kept_at b e).journal) p lists (map (λ (way : ParticipantRun PacketDone). map (λ (deed : PacketDone). deed.outcome) (all_deeds way.rounds)) ways)
-senders_lines plan e b p [] [] some h kept histories marks ways = tt
-senders_lines plan e b p [] (way ∷ ways) some h kept histories marks is = absurd is
+senders_lines : (plan : Plan) (e : Evidence) (b p : ℕ) (lists : List (List SendItem)) (runs : List (ParticipantRun PacketDone)) → 0 < plan.window → IsEvidence plan e → IsBucketEvidence plan (column b e.marks) (bucket_at b e)
+    → AreStampHistories plan (bucket_at b e).journal (bucket_at b e).turns p (map (history_at sender_calls b) runs) → AllByRecursion (λ (history : StampHistory). marks_in plan history ≡ column b e.marks) (map (history_at sender_calls b) runs)
+    → AreSenderRuns plan e.journals p lists runs
+    → EachSender (λ p items log. HasLinesFor plan e.marks p (slow_ops p 1 items log) b (bucket_at b e).journal) p lists (map (λ (run : ParticipantRun PacketDone). map (λ (done_item : PacketDone). done_item.outcome) (all_done_items run.windows)) runs)
+senders_lines plan e b p [] [] some h kept histories marks runs = tt
+senders_lines plan e b p [] (run ∷ runs) some h kept histories marks is = absurd is
 senders_lines plan e b p (items ∷ lists) [] some h kept histories marks is = absurd is
-senders_lines plan e b p (items ∷ lists) (way ∷ ways) some h kept histories marks is = (
-  subst (AllZip (IsLineFor plan e.marks b) (lines_of p [] (kept_at b e).journal)) same
-      (trace_lines p plan e.marks (column b e.marks) b (kept_at b e) trace refl kept (trace_climbs plan b e.marks trace some h.starts marks.0) histories.0.0 histories.0.1 marks.0),
-  senders_lines plan e b (p + 1) lists ways some h kept histories.1 marks.1 is.1,
+senders_lines plan e b p (items ∷ lists) (run ∷ runs) some h kept histories marks is = (
+  subst (AllZip (IsLineFor plan e.marks b) (lines_of p [] (bucket_at b e).journal)) same
+      (history_lines p plan e.marks (column b e.marks) b (bucket_at b e) history refl kept (history_climbs plan b e.marks history some h.starts marks.0) histories.0.0 histories.0.1 marks.0),
+  senders_lines plan e b (p + 1) lists runs some h kept histories.1 marks.1 is.1,
 ) where
-  trace : StampHistory
-  trace = history_at sender_calls b way
+  history : StampHistory
+  history = history_at sender_calls b run
 
-  same : map entered_by (calls_in (map (stamp_window_at sender_calls b) way.rounds)) ≡ filter (λ (entered : Entered). goes_to plan.buckets b entered.op) (slow_ops p 1 items (map (λ (deed : PacketDone). deed.outcome) (all_deeds way.rounds)))
+  same : map entered_by (calls_in (map (stamp_window_at sender_calls b) run.windows)) ≡ filter (λ (entered : Entered). goes_to plan.buckets b entered.op) (slow_ops p 1 items (map (λ (done_item : PacketDone). done_item.outcome) (all_done_items run.windows)))
   same =
-      ap (map entered_by) (calls_at sender_calls b way.rounds)
-      ∙ sender_projected plan p b 1 (all_deeds way.rounds) is.0.done
-      ∙ ap (λ (xs : List SendItem). filter (λ (entered : Entered). goes_to plan.buckets b entered.op) (slow_ops p 1 xs (map (λ (deed : PacketDone). deed.outcome) (all_deeds way.rounds)))) is.0.items
+      ap (map entered_by) (calls_at sender_calls b run.windows)
+      ∙ sender_projected plan p b 1 (all_done_items run.windows) is.0.done
+      ∙ ap (λ (xs : List SendItem). filter (λ (entered : Entered). goes_to plan.buckets b entered.op) (slow_ops p 1 xs (map (λ (done_item : PacketDone). done_item.outcome) (all_done_items run.windows)))) is.0.items
 
 one_of : (o : Option OpId) (n : ℕ) → IfSome o (λ id. participant_of id < n + 1) → IfSome o (λ id. participant_of id ≤ n)
 one_of None n h = tt
@@ -143,15 +144,15 @@ pub shows_lines : ShowsLines
 shows_lines plan e some bucket h = each_journal (HasItsLines plan (run_of plan e)) e.journals (λ b lt. one b (let all = h.buckets in omega (arith, lt, all))) where
   one : (b : ℕ) → b < plan.buckets → HasItsLines plan (run_of plan e) b (get_or e.journals b [])
   one b lt =
-      let kept = h.kept b lt in
-      let trace = history_at control_calls b e.control in
-      let same : map entered_by (calls_in (map (stamp_window_at control_calls b) e.control.rounds)) ≡ filter (λ (entered : Entered). goes_to plan.buckets b entered.op) (control_ops plan host_start 1 plan.control) =
-      ap (map entered_by) (calls_at control_calls b e.control.rounds)
-      ∙ control_projected plan b host_start 1 (all_deeds e.control.rounds) lt h.control.done
+      let kept = h.each_bucket b lt in
+      let history = history_at control_calls b e.control in
+      let same : map entered_by (calls_in (map (stamp_window_at control_calls b) e.control.windows)) ≡ filter (λ (entered : Entered). goes_to plan.buckets b entered.op) (control_ops plan host_start 1 plan.control) =
+      ap (map entered_by) (calls_at control_calls b e.control.windows)
+      ∙ control_projected plan b host_start 1 (all_done_items e.control.windows) lt h.control.done
       ∙ ap (λ (xs : List ControlItem). filter (λ (entered : Entered). goes_to plan.buckets b entered.op) (control_ops plan host_start 1 xs)) h.control.items in
       record {
-        control = subst (AllZip (IsLineFor plan e.marks b) (lines_of 0 [] (kept_at b e).journal)) same
-            (trace_lines 0 plan e.marks (column b e.marks) b (kept_at b e) trace refl kept (trace_climbs plan b e.marks trace some h.starts kept.marks.0) kept.histories.0.0 kept.histories.0.1 kept.marks.0);
+        control = subst (AllZip (IsLineFor plan e.marks b) (lines_of 0 [] (bucket_at b e).journal)) same
+            (history_lines 0 plan e.marks (column b e.marks) b (bucket_at b e) history refl kept (history_climbs plan b e.marks history some h.starts kept.marks.0) kept.histories.0.0 kept.histories.0.1 kept.marks.0);
         senders = senders_lines plan e b 1 plan.senders e.senders some h kept kept.histories.1 kept.marks.1 h.senders;
         only = all_map (IsLineOfOne (length plan.senders + 1)) (λ (line : Line). IfSome line.id (λ id. participant_of id ≤ length plan.senders)) (get_or e.journals b []) (λ line. one_of line.id (length plan.senders)) kept.whole.only_lines;
       }

@@ -11,12 +11,13 @@ use Rattle.nb_base.specs.declared.plan.Plan.{Plan}
 use Rattle.nb_journal.specs.Keys.{is_own}
 use Rattle.nb_journal.specs.Fold.{reply_of, id_of}
 use Rattle.neigh_run.specs.Threaded.{Standing, is_line_of, lines_of}
-use Rattle.bucket_stamps.specs.Own.{participant_of, pair_by, pairs_from, own_pairs}
+use Rattle.nb_base.specs.Ids.{participant_of}
+use Rattle.bucket_stamps.specs.Own.{pair_by, pairs_from, own_pairs}
 use Rattle.run_evidence.specs.Tokens.{AllOk, greatest_of, Shown, Begins, Call, turn_by, IsCall}
 use Rattle.bucket_stamps.specs.declared.view.Turn.{Turn}
 use Rattle.run_evidence.specs.Stamps.{StampWindow, AreCalls, AreStampWindows, calls_in}
 use Rattle.run_evidence.proofs.Lists.{begins_trans, all_append, all_begins}
-use Rattle.run_evidence.proofs.Spans.{calls_past, spans_past}
+use Rattle.run_evidence.proofs.Histories.{calls_past, spans_past}
 
 -- ---- turns only grow
 

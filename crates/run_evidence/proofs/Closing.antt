@@ -9,7 +9,7 @@ use Rattle.nb_base.specs.declared.plan.SendItem.{SendItem}
 use Rattle.run_evidence.specs.Tokens.{Shown, Call}
 use Rattle.run_evidence.specs.Stamps.{StampHistory, IsStampHistory, IsOpening, marks_in, AreStampHistories, IsBucketEvidence}
 use Rattle.neigh_run.specs.Control.{HostState, host_start, turn, state_behind}
-use Rattle.run_evidence.specs.Evidence.{Window, ParticipantRun, ControlDone, PacketDone, control_calls, sender_calls, stamp_window_at, history_at, Evidence, kept_at, column, AreSenderRuns, IsEvidence, all_deeds, AreControlDone}
+use Rattle.run_evidence.specs.Evidence.{Window, ParticipantRun, ControlDone, PacketDone, control_calls, sender_calls, stamp_window_at, history_at, Evidence, bucket_at, column, AreSenderRuns, IsEvidence, all_done_items, AreControlDone}
 use Rattle.run_evidence.specs.Laws.{ShowsRun}
 use Rattle.run_evidence.specs.Closing.{lengths_opened, OneMoreControlWindow, MarksGoOnOf, MarksGoOn, IsLedThrough, lengths_told, lengths_marked, HasMarks, IsOpened, AreSendersLed, IsGathered, GatheredIsARun}
 use Rattle.run_evidence.proofs.Lists.{all_append}
@@ -17,26 +17,26 @@ use Rattle.run_evidence.proofs.Gathered.{histories_of}
 
 -- ---- the loops
 
-items_then : (plan : Plan) (s : HostState) (n : ℕ) (xs ys : List ControlDone) → AreControlDone plan s n xs → AreControlDone plan (state_behind plan s n (map (λ (deed : ControlDone). deed.item) xs)) (n + length xs) ys → AreControlDone plan s n (xs ++ ys)
+items_then : (plan : Plan) (s : HostState) (n : ℕ) (xs ys : List ControlDone) → AreControlDone plan s n xs → AreControlDone plan (state_behind plan s n (map (λ (done_item : ControlDone). done_item.item) xs)) (n + length xs) ys → AreControlDone plan s n (xs ++ ys)
 items_then plan s n [] ys h g = subst (λ m. AreControlDone plan s m ys) (plus n) g where
   plus : (n : ℕ) → n + 0 ≡ n
   plus n = omega arith
 items_then plan s n (x ∷ xs) ys h g =
-    (h.0, items_then plan (turn plan s n x.item).behind (n + 1) xs ys h.1 (subst (λ m. AreControlDone plan (state_behind plan (turn plan s n x.item).behind (n + 1) (map (λ (deed : ControlDone). deed.item) xs)) m ys) (plus n (length xs)) g)) where
+    (h.0, items_then plan (turn plan s n x.item).behind (n + 1) xs ys h.1 (subst (λ m. AreControlDone plan (state_behind plan (turn plan s n x.item).behind (n + 1) (map (λ (done_item : ControlDone). done_item.item) xs)) m ys) (plus n (length xs)) g)) where
       plus : (n k : ℕ) → n + suc k ≡ n + 1 + k
       plus n k = omega arith
 
 pub one_more_control_window : OneMoreControlWindow
 one_more_control_window plan windows window now h opened items = record {
-  done = subst (AreControlDone plan host_start 1) (sym all) (items_then plan host_start 1 (all_deeds windows) window.deeds h.done items.done);
+  done = subst (AreControlDone plan host_start 1) (sym all) (items_then plan host_start 1 (all_done_items windows) window.done_items h.done items.done);
   opened = all_append (IsOpened plan) windows (window ∷ []) h.opened (opened, tt);
 } where
-  all : all_deeds (windows ++ window ∷ []) ≡ all_deeds windows ++ window.deeds
-  all = flat_map-append (λ (w : Window ControlDone). w.deeds) windows (window ∷ []) ∙ ap (λ (ds : List ControlDone). all_deeds windows ++ ds) (append-nil window.deeds)
+  all : all_done_items (windows ++ window ∷ []) ≡ all_done_items windows ++ window.done_items
+  all = flat_map-append (λ (w : Window ControlDone). w.done_items) windows (window ∷ []) ∙ ap (λ (ds : List ControlDone). all_done_items windows ++ ds) (append-nil window.done_items)
 
-lengths_more : {D : Type 0} (plan : Plan) (windows : List (Window D)) (window : Window D) → lengths_opened plan (windows ++ window ∷ []) ≡ lengths_opened plan windows ++ (Some (window.window * plan.window), window.marked) ∷ []
+lengths_more : {D : Type 0} (plan : Plan) (windows : List (Window D)) (window : Window D) → lengths_opened plan (windows ++ window ∷ []) ≡ lengths_opened plan windows ++ (Some (window.number * plan.window), window.marked) ∷ []
 lengths_more plan [] window = refl
-lengths_more plan (w ∷ ws) window = ap (λ (ms : List (Option ℕ × List ℕ)). (Some (w.window * plan.window), w.marked) ∷ ms) (lengths_more plan ws window)
+lengths_more plan (w ∷ ws) window = ap (λ (ms : List (Option ℕ × List ℕ)). (Some (w.number * plan.window), w.marked) ∷ ms) (lengths_more plan ws window)
 
 marked_more : (marks : List Mark) (mark : Mark) → lengths_marked (marks ++ mark ∷ []) ≡ lengths_marked marks ++ (mark.start, mark.lengths) ∷ []
 marked_more [] mark = refl
@@ -44,7 +44,7 @@ marked_more (m ∷ ms) mark = ap (λ (xs : List (Option ℕ × List ℕ)). (m.st
 
 marks_go_on_of : {D : Type 0} → MarksGoOnOf D
 marks_go_on_of = record {
-  more = λ plan windows window marks h. lengths_more plan windows window ∙ ap (λ (xs : List (Option ℕ × List ℕ)). xs ++ (Some (window.window * plan.window), window.marked) ∷ []) h ∙ sym (marked_more marks (record { start = Some (window.window * plan.window); lengths = window.marked }));
+  more = λ plan windows window marks h. lengths_more plan windows window ∙ ap (λ (xs : List (Option ℕ × List ℕ)). xs ++ (Some (window.number * plan.window), window.marked) ∷ []) h ∙ sym (marked_more marks (record { start = Some (window.number * plan.window); lengths = window.marked }));
   last = λ plan own marks h. ap (λ (xs : List (Option ℕ × List ℕ)). xs ++ (None, own.ended) ∷ []) h ∙ sym (marked_more marks (record { start = None; lengths = own.ended }));
 }
 
@@ -57,16 +57,16 @@ abbrev pair_at : ℕ → Option ℕ × List ℕ → Option ℕ × ℕ
 pair_at b m = (m.0, slice_index_or m.1 b 0)
 
 told_in : {D : Type 0} (calls : D → List Call) (plan : Plan) (b : ℕ) (ended : List ℕ) (after : List Shown) (windows : List (Window D))
-    → (let own : ParticipantRun D = record { rounds = windows; ended = ended; after = after } in marks_in plan (history_at calls b own) ≡ map (pair_at b) (lengths_told plan own))
+    → (let own : ParticipantRun D = record { windows = windows; ended = ended; after = after } in marks_in plan (history_at calls b own) ≡ map (pair_at b) (lengths_told plan own))
 told_in calls plan b ended after [] = refl
-told_in calls plan b ended after (w ∷ ws) = ap (λ (ms : List (Option ℕ × ℕ)). (Some (w.window * plan.window), slice_index_or w.marked b 0) ∷ ms) (told_in calls plan b ended after ws)
+told_in calls plan b ended after (w ∷ ws) = ap (λ (ms : List (Option ℕ × ℕ)). (Some (w.number * plan.window), slice_index_or w.marked b 0) ∷ ms) (told_in calls plan b ended after ws)
 
 columns : (b : ℕ) (marks : List Mark) → map (pair_at b) (lengths_marked marks) ≡ column b marks
 columns b [] = refl
 columns b (mark ∷ marks) = ap (λ (ms : List (Option ℕ × ℕ)). pair_at b (mark.start, mark.lengths) ∷ ms) (columns b marks)
 
 marks_at : {D : Type 0} (calls : D → List Call) (plan : Plan) (b : ℕ) (marks : List Mark) (own : ParticipantRun D) → HasMarks plan marks own → marks_in plan (history_at calls b own) ≡ column b marks
-marks_at calls plan b marks own h = told_in calls plan b own.ended own.after own.rounds ∙ ap (map (pair_at b)) h ∙ columns b marks
+marks_at calls plan b marks own h = told_in calls plan b own.ended own.after own.windows ∙ ap (map (pair_at b)) h ∙ columns b marks
 
 -- ---- histories
 
@@ -97,11 +97,11 @@ senders_marks plan e b p [] (own ∷ owns) h = absurd h
 senders_marks plan e b p (items ∷ lists) [] h = absurd h
 senders_marks plan e b p (items ∷ lists) (own ∷ owns) h = (marks_at sender_calls plan b e.marks own h.0.0.told, senders_marks plan e b (p + 1) lists owns h.1)
 
-bucket_evidence : (plan : Plan) (e : Evidence) (b : ℕ) → b < plan.buckets → IsGathered plan e → IsBucketEvidence plan (column b e.marks) (kept_at b e)
+bucket_evidence : (plan : Plan) (e : Evidence) (b : ℕ) → b < plan.buckets → IsGathered plan e → IsBucketEvidence plan (column b e.marks) (bucket_at b e)
 bucket_evidence plan e b lt h = record {
   participants = let many = senders_many plan e b 1 plan.senders e.senders h.senders in omega (arith, many);
   histories = ((history_is control_calls 0 b plan e.control lt h.control.led, h.control_tokens b lt), senders_histories plan e b 1 plan.senders e.senders lt h.senders);
-  opens = openings plan b e.control.rounds lt h.control.opened;
+  opens = openings plan b e.control.windows lt h.control.opened;
   marks = (marks_at control_calls plan b e.marks e.control h.control.told, senders_marks plan e b 1 plan.senders e.senders h.senders);
   whole = h.whole b lt;
 }
@@ -122,7 +122,7 @@ gathered_is_evidence plan e h = record {
   buckets = h.buckets;
   starts = h.starts;
   lengths = h.lengths;
-  kept = λ b lt. bucket_evidence plan e b lt h;
+  each_bucket = λ b lt. bucket_evidence plan e b lt h;
   counted = h.counted;
   counts = h.counts;
   control = h.control.run;

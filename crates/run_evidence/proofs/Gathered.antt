@@ -14,10 +14,10 @@ use Rattle.neigh_run.specs.Windows.{window_of}
 use Rattle.run_evidence.specs.Tokens.{Shown, nothing_shown, Call, IsCall, IsMet}
 use Rattle.run_evidence.specs.Stamps.{AreCalls, AreStampWindows}
 use Rattle.run_evidence.specs.Holds.{Hold, MeetsHold}
-use Rattle.run_evidence.specs.Evidence.{Window, ControlDone, PacketDone, control_calls, sender_calls, all_deeds, in_bucket, shown_at, stamp_window_at, IsControlDone, AreControlDone, IsPacketDone, ArePacketsDone, LeavesHold, DeedsHold, RoundsHold, is_named, last_hold}
+use Rattle.run_evidence.specs.Evidence.{Window, ControlDone, PacketDone, control_calls, sender_calls, all_done_items, in_bucket, shown_at, stamp_window_at, IsControlDone, AreControlDone, IsPacketDone, ArePacketsDone, LeavesHold, PacketsLeaveHold, WindowsLeaveHold, is_named, last_hold}
 use Rattle.run_evidence.specs.Growing.{StampsTo, OneMoreCall, HoldsTo, OneMorePacket, OneMoreItem, IsWindowOf, WindowsTo, OneMoreWindowOf, WindowsAreHistoriesOf, WindowsGoOn, OneMoreWindow}
 use Rattle.run_evidence.proofs.Lists.{all_append}
-use Rattle.run_evidence.proofs.Ways.{all_in}
+use Rattle.run_evidence.proofs.SenderRuns.{all_in}
 
 -- ---- calls
 
@@ -30,43 +30,43 @@ one_more_call p params old calls now call h c = stamps_then p params old calls n
 
 -- ---- packets
 
-packets_more : (plan : Plan) (p n : ℕ) (deeds : List PacketDone) (deed : PacketDone) → ArePacketsDone plan p n deeds → IsPacketDone plan p (n + length deeds) deed deed.outcome → ArePacketsDone plan p n (deeds ++ deed ∷ [])
-packets_more plan p n [] deed h d = (subst (λ m. IsPacketDone plan p m deed deed.outcome) (plus n) d, tt) where
+packets_more : (plan : Plan) (p n : ℕ) (done_items : List PacketDone) (done_item : PacketDone) → ArePacketsDone plan p n done_items → IsPacketDone plan p (n + length done_items) done_item done_item.outcome → ArePacketsDone plan p n (done_items ++ done_item ∷ [])
+packets_more plan p n [] done_item h d = (subst (λ m. IsPacketDone plan p m done_item done_item.outcome) (plus n) d, tt) where
   plus : (n : ℕ) → n + 0 ≡ n
   plus n = omega arith
-packets_more plan p n (x ∷ xs) deed h d = (h.0, packets_more plan p (n + 1) xs deed h.1 (subst (λ m. IsPacketDone plan p m deed deed.outcome) (plus n (length xs)) d)) where
+packets_more plan p n (x ∷ xs) done_item h d = (h.0, packets_more plan p (n + 1) xs done_item h.1 (subst (λ m. IsPacketDone plan p m done_item done_item.outcome) (plus n (length xs)) d)) where
   plus : (n k : ℕ) → n + suc k ≡ n + 1 + k
   plus n k = omega arith
 
-holds_more : (plan : Plan) (key : Key) (old : Option Hold) (deeds : List PacketDone) (now : Option Hold) (deed : PacketDone) → HoldsTo plan key old deeds now → LeavesHold plan key now deed → HoldsTo plan key old (deeds ++ deed ∷ []) (deed.holds key)
-holds_more plan key old [] now deed h l = (subst (λ (x : Option Hold). LeavesHold plan key x deed) h l, refl)
-holds_more plan key old (x ∷ xs) now deed h l = (h.0, holds_more plan key (x.holds key) xs now deed h.1 l)
+holds_more : (plan : Plan) (key : Key) (old : Option Hold) (done_items : List PacketDone) (now : Option Hold) (done_item : PacketDone) → HoldsTo plan key old done_items now → LeavesHold plan key now done_item → HoldsTo plan key old (done_items ++ done_item ∷ []) (done_item.holds key)
+holds_more plan key old [] now done_item h l = (subst (λ (x : Option Hold). LeavesHold plan key x done_item) h l, refl)
+holds_more plan key old (x ∷ xs) now done_item h l = (h.0, holds_more plan key (x.holds key) xs now done_item h.1 l)
 
-more_calls : {D : Type 0} (calls : D → List Call) (deeds : List D) (deed : D) → flat_map calls (deeds ++ deed ∷ []) ≡ flat_map calls deeds ++ calls deed
-more_calls calls deeds deed = flat_map-append calls deeds (deed ∷ []) ∙ ap (λ cs. flat_map calls deeds ++ cs) (append-nil (calls deed))
+more_calls : {D : Type 0} (calls : D → List Call) (done_items : List D) (done_item : D) → flat_map calls (done_items ++ done_item ∷ []) ≡ flat_map calls done_items ++ calls done_item
+more_calls calls done_items done_item = flat_map-append calls done_items (done_item ∷ []) ∙ ap (λ cs. flat_map calls done_items ++ cs) (append-nil (calls done_item))
 
 pub one_more_packet : OneMorePacket
-one_more_packet plan p n opened before deeds now holds deed next h s = record {
-  done = packets_more plan p n deeds deed h.done s.done;
-  stamps = subst (λ cs. StampsTo p plan.params opened cs next) (sym (more_calls sender_calls deeds deed)) (stamps_then p plan.params opened (flat_map sender_calls deeds) now deed.calls next h.stamps s.stamps);
-  held = λ key. holds_more plan key (before key) deeds (holds key) deed (h.held key) (s.left key);
+one_more_packet plan p n opened before done_items now holds done_item next h s = record {
+  done = packets_more plan p n done_items done_item h.done s.done;
+  stamps = subst (λ cs. StampsTo p plan.params opened cs next) (sym (more_calls sender_calls done_items done_item)) (stamps_then p plan.params opened (flat_map sender_calls done_items) now done_item.calls next h.stamps s.stamps);
+  held = λ key. holds_more plan key (before key) done_items (holds key) done_item (h.held key) (s.left key);
 }
 
 -- ---- items
 
-items_more : (plan : Plan) (s : HostState) (n : ℕ) (deeds : List ControlDone) (deed : ControlDone) → AreControlDone plan s n deeds → IsControlDone plan (state_behind plan s n (map (λ (deed : ControlDone). deed.item) deeds)) (n + length deeds) deed → AreControlDone plan s n (deeds ++ deed ∷ [])
-items_more plan s n [] deed h d = (subst (λ m. IsControlDone plan s m deed) (plus n) d, tt) where
+items_more : (plan : Plan) (s : HostState) (n : ℕ) (done_items : List ControlDone) (done_item : ControlDone) → AreControlDone plan s n done_items → IsControlDone plan (state_behind plan s n (map (λ (done_item : ControlDone). done_item.item) done_items)) (n + length done_items) done_item → AreControlDone plan s n (done_items ++ done_item ∷ [])
+items_more plan s n [] done_item h d = (subst (λ m. IsControlDone plan s m done_item) (plus n) d, tt) where
   plus : (n : ℕ) → n + 0 ≡ n
   plus n = omega arith
-items_more plan s n (x ∷ xs) deed h d =
-    (h.0, items_more plan (turn plan s n x.item).behind (n + 1) xs deed h.1 (subst (λ m. IsControlDone plan (state_behind plan (turn plan s n x.item).behind (n + 1) (map (λ (deed : ControlDone). deed.item) xs)) m deed) (plus n (length xs)) d)) where
+items_more plan s n (x ∷ xs) done_item h d =
+    (h.0, items_more plan (turn plan s n x.item).behind (n + 1) xs done_item h.1 (subst (λ m. IsControlDone plan (state_behind plan (turn plan s n x.item).behind (n + 1) (map (λ (done_item : ControlDone). done_item.item) xs)) m done_item) (plus n (length xs)) d)) where
       plus : (n k : ℕ) → n + suc k ≡ n + 1 + k
       plus n k = omega arith
 
 pub one_more_item : OneMoreItem
-one_more_item plan s n opened deeds now deed next h d g = record {
-  done = items_more plan s n deeds deed h.done d;
-  stamps = subst (λ cs. StampsTo 0 plan.params opened cs next) (sym (more_calls control_calls deeds deed)) (stamps_then 0 plan.params opened (flat_map control_calls deeds) now deed.calls next h.stamps g);
+one_more_item plan s n opened done_items now done_item next h d g = record {
+  done = items_more plan s n done_items done_item h.done d;
+  stamps = subst (λ cs. StampsTo 0 plan.params opened cs next) (sym (more_calls control_calls done_items done_item)) (stamps_then 0 plan.params opened (flat_map control_calls done_items) now done_item.calls next h.stamps g);
 }
 
 -- ---- windows
@@ -100,20 +100,20 @@ bucket_windows : {D : Type 0} (calls : D → List Call) (p b : ℕ) (plan : Plan
 bucket_windows calls p b plan old [] now ended after lt h m = subst (λ (s : List Shown). IsMet p (shown_at b s) after ended []) h m
 bucket_windows calls p b plan old (w ∷ ws) now ended after lt h m =
     let opened = h.0.opened.size in
-    let size = stamps_size p plan.params w.opened (flat_map calls w.deeds) h.0.now h.0.stamps in
+    let size = stamps_size p plan.params w.opened (flat_map calls w.done_items) h.0.now h.0.stamps in
     let closed = h.0.closed.size in
     let met = h.0.closed.each b (omega (arith, lt, opened, size)) in (
       record {
         marked = h.0.opened.each b lt;
-        calls = bucket_calls p b plan.params w.opened (flat_map calls w.deeds) h.0.now (slice_index_or w.met b 0) (shown_at b w.closed) h.0.stamps met;
-        items = all_in (λ (call : Call). window_of plan call.entered.at ≡ w.window) b (flat_map calls w.deeds) h.0.items;
+        calls = bucket_calls p b plan.params w.opened (flat_map calls w.done_items) h.0.now (slice_index_or w.met b 0) (shown_at b w.closed) h.0.stamps met;
+        items = all_in (λ (call : Call). window_of plan call.entered.at ≡ w.number) b (flat_map calls w.done_items) h.0.items;
       },
       bucket_windows calls p b plan w.closed ws now ended after (omega (arith, lt, opened, size, closed)) h.1 m,
     )
 
 windows_size : {D : Type 0} (calls : D → List Call) (p : ℕ) (plan : Plan) (old : List Shown) (windows : List (Window D)) (now : List Shown) → WindowsTo calls p plan old windows now → length now ≡ length old
 windows_size calls p plan old [] now h = ap length h
-windows_size calls p plan old (w ∷ ws) now h = windows_size calls p plan w.closed ws now h.1 ∙ h.0.closed.size ∙ stamps_size p plan.params w.opened (flat_map calls w.deeds) h.0.now h.0.stamps ∙ h.0.opened.size
+windows_size calls p plan old (w ∷ ws) now h = windows_size calls p plan w.closed ws now h.1 ∙ h.0.closed.size ∙ stamps_size p plan.params w.opened (flat_map calls w.done_items) h.0.now h.0.stamps ∙ h.0.opened.size
 
 blank_at : (n b : ℕ) → shown_at b (replicate n nothing_shown) ≡ nothing_shown
 blank_at zero b = refl
@@ -127,9 +127,9 @@ blank_size (suc n) = ap suc (blank_size n)
 pub histories_of : {D : Type 0} (calls : D → List Call) → WindowsAreHistoriesOf calls
 histories_of calls p plan own now h m b lt =
     let first = blank_size plan.buckets in
-    let size = windows_size calls p plan (replicate plan.buckets nothing_shown) own.rounds now h in
-    subst (λ (s : Shown). AreStampWindows p plan s (map (stamp_window_at calls b) own.rounds) (slice_index_or own.ended b 0) (shown_at b own.after)) (blank_at plan.buckets b)
-    (bucket_windows calls p b plan (replicate plan.buckets nothing_shown) own.rounds now (slice_index_or own.ended b 0) (shown_at b own.after) (omega (arith, lt, first)) h (m.each b (omega (arith, lt, first, size))))
+    let size = windows_size calls p plan (replicate plan.buckets nothing_shown) own.windows now h in
+    subst (λ (s : Shown). AreStampWindows p plan s (map (stamp_window_at calls b) own.windows) (slice_index_or own.ended b 0) (shown_at b own.after)) (blank_at plan.buckets b)
+    (bucket_windows calls p b plan (replicate plan.buckets nothing_shown) own.windows now (slice_index_or own.ended b 0) (shown_at b own.after) (omega (arith, lt, first)) h (m.each b (omega (arith, lt, first, size))))
 
 pub windows_go_on : WindowsGoOn
 windows_go_on = record {
@@ -150,14 +150,14 @@ packets_then plan p n (x ∷ xs) ys h g = (h.0, packets_then plan p (n + 1) xs y
   plus n k = omega arith
 
 -- the packets of a window and the barrier behind it
-deeds_hold : (plan : Plan) (key : Key) (old : Option Hold) (deeds : List PacketDone) (now : Option Hold) (shown : Shown) (told : ℕ) (named : Bool) (closed : Option Hold)
-    → HoldsTo plan key old deeds now → MeetsHold plan.params plan.host key shown.past told named now closed → DeedsHold plan key old deeds shown.past told named closed
-deeds_hold plan key old [] now shown told named closed h m = subst (λ (x : Option Hold). MeetsHold plan.params plan.host key shown.past told named x closed) h m
-deeds_hold plan key old (x ∷ xs) now shown told named closed h m = (h.0, deeds_hold plan key (x.holds key) xs now shown told named closed h.1 m)
+packets_leave : (plan : Plan) (key : Key) (old : Option Hold) (done_items : List PacketDone) (now : Option Hold) (shown : Shown) (told : ℕ) (named : Bool) (closed : Option Hold)
+    → HoldsTo plan key old done_items now → MeetsHold plan.params plan.host key shown.past told named now closed → PacketsLeaveHold plan key old done_items shown.past told named closed
+packets_leave plan key old [] now shown told named closed h m = subst (λ (x : Option Hold). MeetsHold plan.params plan.host key shown.past told named x closed) h m
+packets_leave plan key old (x ∷ xs) now shown told named closed h m = (h.0, packets_leave plan key (x.holds key) xs now shown told named closed h.1 m)
 
-rounds_more : (plan : Plan) (key : Key) (old : Option Hold) (windows : List (Window PacketDone)) (window : Window PacketDone) → RoundsHold plan key old windows → RoundsHold plan key (last_hold key old windows) (window ∷ []) → RoundsHold plan key old (windows ++ window ∷ [])
-rounds_more plan key old [] window h g = g
-rounds_more plan key old (w ∷ ws) window h g = (h.0, h.1, rounds_more plan key (w.closed_holds key) ws window h.2 g)
+windows_more : (plan : Plan) (key : Key) (old : Option Hold) (windows : List (Window PacketDone)) (window : Window PacketDone) → WindowsLeaveHold plan key old windows → WindowsLeaveHold plan key (last_hold key old windows) (window ∷ []) → WindowsLeaveHold plan key old (windows ++ window ∷ [])
+windows_more plan key old [] window h g = g
+windows_more plan key old (w ∷ ws) window h g = (h.0, h.1, windows_more plan key (w.closed_holds key) ws window h.2 g)
 
 last_more : (key : Key) (old : Option Hold) (windows : List (Window PacketDone)) (window : Window PacketDone) → last_hold key old (windows ++ window ∷ []) ≡ window.closed_holds key
 last_more key old [] window = refl
@@ -165,17 +165,17 @@ last_more key old (w ∷ ws) window = last_more key (w.closed_holds key) ws wind
 
 pub one_more_window : OneMoreWindow
 one_more_window plan p windows holds window now sent h opened packets items closed = record {
-  done = subst (ArePacketsDone plan p 1) (sym all) (packets_then plan p 1 (all_deeds windows) window.deeds h.done packets.done);
-  in_window = all_append (λ (w : Window PacketDone). AllByRecursion (λ (deed : PacketDone). window_of plan deed.item.at ≡ w.window) w.deeds) windows (window ∷ []) h.in_window (items, tt);
-  held = λ key. rounds_more plan key None windows window (h.held key) (subst (λ (x : Option Hold). RoundsHold plan key x (window ∷ [])) (sym (h.now key)) (one key));
+  done = subst (ArePacketsDone plan p 1) (sym all) (packets_then plan p 1 (all_done_items windows) window.done_items h.done packets.done);
+  in_window = all_append (λ (w : Window PacketDone). AllByRecursion (λ (done_item : PacketDone). window_of plan done_item.item.at ≡ w.number) w.done_items) windows (window ∷ []) h.in_window (items, tt);
+  held = λ key. windows_more plan key None windows window (h.held key) (subst (λ (x : Option Hold). WindowsLeaveHold plan key x (window ∷ [])) (sym (h.now key)) (one key));
   now = λ key. last_more key None windows window;
 } where
-  all : all_deeds (windows ++ window ∷ []) ≡ all_deeds windows ++ window.deeds
-  all = flat_map-append (λ (w : Window PacketDone). w.deeds) windows (window ∷ []) ∙ ap (λ ds. all_deeds windows ++ ds) (append-nil window.deeds)
+  all : all_done_items (windows ++ window ∷ []) ≡ all_done_items windows ++ window.done_items
+  all = flat_map-append (λ (w : Window PacketDone). w.done_items) windows (window ∷ []) ∙ ap (λ ds. all_done_items windows ++ ds) (append-nil window.done_items)
 
-  one : (key : Key) → RoundsHold plan key (holds key) (window ∷ [])
+  one : (key : Key) → WindowsLeaveHold plan key (holds key) (window ∷ [])
   one key = (
     opened key,
-    deeds_hold plan key (window.opened_holds key) window.deeds (sent key) (shown_at (bucket_of plan.buckets key) window.closed) (slice_index_or window.met (bucket_of plan.buckets key) 0) (is_named key window.deeds) (window.closed_holds key) (packets.held key) (closed key),
+    packets_leave plan key (window.opened_holds key) window.done_items (sent key) (shown_at (bucket_of plan.buckets key) window.closed) (slice_index_or window.met (bucket_of plan.buckets key) 0) (is_named key window.done_items) (window.closed_holds key) (packets.held key) (closed key),
     tt,
   )

@@ -1,6 +1,6 @@
 pub mod Lists
 pub mod Turns
-pub mod Spans
+pub mod Histories
 pub mod Buckets
 pub mod Calls
 pub mod Marks
@@ -10,7 +10,7 @@ pub mod Windows
 pub mod Projected
 pub mod Assembled
 pub mod Places
-pub mod Ways
+pub mod SenderRuns
 pub mod HostLines
 pub mod Numbers
 pub mod Reading

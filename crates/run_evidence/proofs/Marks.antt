@@ -13,7 +13,7 @@ use Rattle.run_evidence.specs.Tokens.{Shown, Call}
 use Rattle.run_evidence.specs.Stamps.{StampWindow, AreStampWindows}
 use Rattle.run_evidence.specs.Evidence.{column}
 use Rattle.run_evidence.proofs.Lists.{all_map, all_append}
-use Rattle.run_evidence.proofs.Spans.{calls_places, span_rises, lengths_of, spans_rise}
+use Rattle.run_evidence.proofs.Histories.{calls_places, span_rises, lengths_of, spans_rise}
 
 -- ---- marks as pairs
 
@@ -59,10 +59,10 @@ Climbs [] = Unit {0}
 Climbs (x ∷ xs) = AllByRecursion (λ y. x < y) xs × Climbs xs
 
 abbrev pub starts_of : Plan → List StampWindow → List ℕ
-starts_of plan spans = map (λ (span : StampWindow). span.window * plan.window) spans
+starts_of plan spans = map (λ (span : StampWindow). span.number * plan.window) spans
 
 abbrev pub marks_of : Plan → List StampWindow → ℕ → List (Option ℕ × ℕ)
-marks_of plan spans ended = map (λ (span : StampWindow). (Some (span.window * plan.window), span.mark)) spans ++ (None, ended) ∷ []
+marks_of plan spans ended = map (λ (span : StampWindow). (Some (span.number * plan.window), span.mark)) spans ++ (None, ended) ∷ []
 
 -- marks whose moments lie before all of these
 abbrev pub AreBefore : List ℕ → List (Option ℕ × ℕ) → Type 0
@@ -138,7 +138,7 @@ calls_between p plan told done old (span ∷ spans) ended left h e before climbs
       (next_before start span.mark (starts_of plan spans) done climbs before) climbs.1,
 ) where
   start : ℕ
-  start = span.window * plan.window
+  start = span.number * plan.window
 
   places : (length span.opened.past ≤ span.met) × AllByRecursion (λ (call : Call). (span.mark ≤ call.place) × (call.place < span.met)) span.calls
   places = calls_places p plan.params span.opened span.calls span.met span.closed span.mark (span_rises p plan old span h.0).1 h.0.calls
@@ -155,7 +155,7 @@ calls_between p plan told done old (span ∷ spans) ended left h e before climbs
   from : pairs_from start told ≡ (Some start, span.mark) ∷ marks_of plan spans ended
   from = ap (pairs_from start) e ∙ skips start done ((Some start, span.mark) ∷ marks_of plan spans ended) all_before ∙ here start span.mark (marks_of plan spans ended)
 
-  one : (call : Call) → (span.mark ≤ call.place) × (call.place < span.met) → window_of plan call.entered.at ≡ span.window → IsBetween plan told call
+  one : (call : Call) → (span.mark ≤ call.place) × (call.place < span.met) → window_of plan call.entered.at ≡ span.number → IsBetween plan told call
   one call at item =
       let w : window_of plan call.entered.at * plan.window ≡ start = ap (λ w. w * plan.window) item in
       let is = ap (λ s. pairs_from s told) w ∙ from in
@@ -175,6 +175,6 @@ calls_between p plan told done old (span ∷ spans) ended left h e before climbs
             ((λ t. begun), late plan call.place call.entered.at (length span.closed.past) ended spans past rising));
       }
 
-  each : (calls : List Call) → AllByRecursion (λ (call : Call). (span.mark ≤ call.place) × (call.place < span.met)) calls → AllByRecursion (λ (call : Call). window_of plan call.entered.at ≡ span.window) calls → AllByRecursion (IsBetween plan told) calls
+  each : (calls : List Call) → AllByRecursion (λ (call : Call). (span.mark ≤ call.place) × (call.place < span.met)) calls → AllByRecursion (λ (call : Call). window_of plan call.entered.at ≡ span.number) calls → AllByRecursion (IsBetween plan told) calls
   each [] a i = tt
   each (call ∷ calls) a i = (one call a.0 i.0, each calls a.1 i.1)

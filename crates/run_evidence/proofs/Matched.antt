@@ -66,12 +66,12 @@ matched p plan marks told b kept (s ∷ standings) (call ∷ calls) c h e st d b
     (standing_call p plan marks told b kept s call c h (ap (λ (z : ℕ × OpId). z.0) parts.0) st.0 d.0 between.0, matched p plan marks told b kept standings calls c h parts.1 st.1 d.1 between.1)
 
 -- a participant's lines are those of its calls
-pub trace_lines : (p : ℕ) (plan : Plan) (marks : List Mark) (told : List (Option ℕ × ℕ)) (b : ℕ) (kept : BucketEvidence) (trace : StampHistory) → column b marks ≡ told → IsBucketEvidence plan told kept → Climbs (starts_of plan trace.spans)
-    → IsStampHistory p plan trace → IsGivenUp p kept.journal kept.turns trace.after → marks_in plan trace ≡ told
-    → AllZip (IsLineFor plan marks b) (lines_of p [] kept.journal) (map entered_by (calls_in trace.spans))
-trace_lines p plan marks told b kept trace c h climbs is given m =
-    matched p plan marks told b kept (lines_of p [] kept.journal) (calls_in trace.spans) c h
-    (pairs-are p kept.journal ∙ given.own_lines ∙ spans_pairs p plan nothing_shown trace.spans trace.ended trace.after is)
+pub history_lines : (p : ℕ) (plan : Plan) (marks : List Mark) (told : List (Option ℕ × ℕ)) (b : ℕ) (kept : BucketEvidence) (history : StampHistory) → column b marks ≡ told → IsBucketEvidence plan told kept → Climbs (starts_of plan history.windows)
+    → IsStampHistory p plan history → IsGivenUp p kept.journal kept.turns history.after → marks_in plan history ≡ told
+    → AllZip (IsLineFor plan marks b) (lines_of p [] kept.journal) (map entered_by (calls_in history.windows))
+history_lines p plan marks told b kept history c h climbs is given m =
+    matched p plan marks told b kept (lines_of p [] kept.journal) (calls_in history.windows) c h
+    (pairs-are p kept.journal ∙ given.own_lines ∙ spans_pairs p plan nothing_shown history.windows history.ended history.after is)
     (lines_in p kept.journal)
-    (all_calls (IsDone p plan.params kept.journal kept.turns) trace.spans (spans_done p plan nothing_shown trace.spans trace.ended trace.after kept.journal kept.turns is given.past given.begins (kept_ok plan told kept h)))
-    (all_calls (IsBetween plan told) trace.spans (calls_between p plan told [] nothing_shown trace.spans trace.ended trace.after is (sym m) tt climbs))
+    (all_calls (IsDone p plan.params kept.journal kept.turns) history.windows (spans_done p plan nothing_shown history.windows history.ended history.after kept.journal kept.turns is given.past given.begins (kept_ok plan told kept h)))
+    (all_calls (IsBetween plan told) history.windows (calls_between p plan told [] nothing_shown history.windows history.ended history.after is (sym m) tt climbs))

@@ -16,7 +16,7 @@ use Rattle.bucket_stamps.specs.declared.view.Turn.{Turn}
 use Rattle.run_evidence.specs.Stamps.{StampWindow, advances, AreStampWindows, BucketEvidence, IsBucketEvidence}
 use Rattle.run_evidence.proofs.Lists.{all_map, all_front, all_begins}
 use Rattle.run_evidence.proofs.Turns.{greatest-snoc, greatest-above, greatest-within}
-use Rattle.run_evidence.proofs.Spans.{IsAdvance, advances_are, made_all}
+use Rattle.run_evidence.proofs.Histories.{IsAdvance, advances_are, made_all}
 use Rattle.run_evidence.proofs.Buckets.{HoldsOfMade, kept_turns, kept_ok, kept_lawful}
 use Rattle.run_evidence.proofs.Calls.{IsDone, spans_done}
 use Rattle.run_evidence.proofs.Marks.{IsEarly, IsBetween, marks_of}
@@ -115,9 +115,9 @@ call_settled p plan journal turns q call other never c o le =
 -- every turn is settled for a call that stands between its marks
 made_settled : (p : ℕ) (plan : Plan) (told : List (Option ℕ × ℕ)) (kept : BucketEvidence) (call : Call) → NeverFall kept.journal → AllOk kept.turns → IsDone p plan.params kept.journal kept.turns call → IsBetween plan told call
     → HoldsOfMade (IsSettled call.place (max call.entered.at (last_moment (own_lines call.past)))) plan told kept.journal kept.turns
-made_settled p plan told kept call never ok c between q trace is given marks =
-    made_all (IsSettled call.place bound) q plan trace.spans
-    (go nothing_shown trace.spans is (subst (AllByRecursion (IsEarly call.place call.entered.at)) (sym marks) between.early) (spans_done q plan nothing_shown trace.spans trace.ended trace.after kept.journal kept.turns is given.past given.begins ok)) where
+made_settled p plan told kept call never ok c between q history is given marks =
+    made_all (IsSettled call.place bound) q plan history.windows
+    (go nothing_shown history.windows is (subst (AllByRecursion (IsEarly call.place call.entered.at)) (sym marks) between.early) (spans_done q plan nothing_shown history.windows history.ended history.after kept.journal kept.turns is given.past given.begins ok)) where
       bound : ℕ
       bound = max call.entered.at (last_moment (own_lines call.past))
 
@@ -125,13 +125,13 @@ made_settled p plan told kept call never ok c between q trace is given marks =
       by_mark start told ts early all = all_map (IsAdvance start told) (IsSettled call.place (max call.entered.at (last_moment (own_lines call.past)))) ts
           (λ t a le. let from = a.length in let at = a.at in let begun = early (omega (arith, from, le)) in let left = le-max_left call.entered.at (last_moment (own_lines call.past)) in omega (arith, at, begun, left)) all
 
-      go : (old : Shown) (spans : List StampWindow) → AreStampWindows q plan old spans trace.ended trace.after → AllByRecursion (IsEarly call.place call.entered.at) (marks_of plan spans trace.ended)
+      go : (old : Shown) (spans : List StampWindow) → AreStampWindows q plan old spans history.ended history.after → AllByRecursion (IsEarly call.place call.entered.at) (marks_of plan spans history.ended)
           → AllByRecursion (λ (span : StampWindow). AllByRecursion (IsDone q plan.params kept.journal kept.turns) span.calls) spans
           → AllByRecursion (λ (span : StampWindow). AllByRecursion (IsSettled call.place (max call.entered.at (last_moment (own_lines call.past)))) (advances q plan span) × AllByRecursion (λ (other : Call). IsSettled call.place (max call.entered.at (last_moment (own_lines call.past))) (turn_by q other)) span.calls) spans
       go old [] is early done = tt
       go old (span ∷ spans) is early done = (
         (
-          by_mark (span.window * plan.window) span.mark (advances q plan span) early.0 (advances_are q plan span),
+          by_mark (span.number * plan.window) span.mark (advances q plan span) early.0 (advances_are q plan span),
           all_map (IsDone q plan.params kept.journal kept.turns) (λ (other : Call). IsSettled call.place (max call.entered.at (last_moment (own_lines call.past))) (turn_by q other)) span.calls (λ other o. call_settled p plan kept.journal kept.turns q call other never c o) done.0,
         ),
         go span.closed spans is.1 early.1 done.1,

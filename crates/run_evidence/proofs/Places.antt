@@ -14,7 +14,7 @@ use Rattle.nb_base.specs.declared.plan.Plan.{Plan}
 use Rattle.nb_journal.specs.Fold.{id_of, reply_of}
 use Rattle.neigh_run.specs.Inline.{find_place, journal_at, placed_at}
 use Rattle.neigh_run.specs.Threaded.{Standing, lines_of}
-use Rattle.bucket_stamps.specs.Own.{participant_of}
+use Rattle.nb_base.specs.Ids.{participant_of}
 use Rattle.run_evidence.specs.Tokens.{nothing_shown, Call, IsGivenUp}
 use Rattle.bucket_stamps.specs.declared.view.Turn.{Turn}
 use Rattle.run_evidence.specs.Stamps.{StampHistory, IsStampHistory, calls_in, BucketEvidence, IsBucketEvidence}
@@ -93,13 +93,13 @@ find_call p params journal turns call (x ∷ xs) ys (s ∷ standings) d e st dif
         by_test true e = absurd (n (eqb-true a b e))
 
 -- a participant's call is found by its number, where no earlier call of the bucket has it
-pub call_found : (p : ℕ) (plan : Plan) (told : List (Option ℕ × ℕ)) (kept : BucketEvidence) (trace : StampHistory) (call : Call) (xs ys : List Call) → IsBucketEvidence plan told kept → IsStampHistory p plan trace → IsGivenUp p kept.journal kept.turns trace.after
-    → calls_in trace.spans ≡ xs ++ call ∷ ys → AllByRecursion (λ (other : Call). other.entered.id.0 ≡ call.entered.id.0 → ⊥) xs
+pub call_found : (p : ℕ) (plan : Plan) (told : List (Option ℕ × ℕ)) (kept : BucketEvidence) (history : StampHistory) (call : Call) (xs ys : List Call) → IsBucketEvidence plan told kept → IsStampHistory p plan history → IsGivenUp p kept.journal kept.turns history.after
+    → calls_in history.windows ≡ xs ++ call ∷ ys → AllByRecursion (λ (other : Call). other.entered.id.0 ≡ call.entered.id.0 → ⊥) xs
     → find_place plan.params [] kept.journal call.entered.id ≡ Some (call.place, Some call.reply)
-call_found p plan told kept trace call xs ys h is given e differ =
-    let all = all_calls (IsDone p plan.params kept.journal kept.turns) trace.spans (spans_done p plan nothing_shown trace.spans trace.ended trace.after kept.journal kept.turns is given.past given.begins (kept_ok plan told kept h)) in
+call_found p plan told kept history call xs ys h is given e differ =
+    let all = all_calls (IsDone p plan.params kept.journal kept.turns) history.windows (spans_done p plan nothing_shown history.windows history.ended history.after kept.journal kept.turns is given.past given.begins (kept_ok plan told kept h)) in
     let d = in_midst xs (subst (AllByRecursion (IsDone p plan.params kept.journal kept.turns)) e all) in
-    let pairs = pairs-are p kept.journal ∙ given.own_lines ∙ spans_pairs p plan nothing_shown trace.spans trace.ended trace.after is ∙ ap (map pair_of) e in
+    let pairs = pairs-are p kept.journal ∙ given.own_lines ∙ spans_pairs p plan nothing_shown history.windows history.ended history.after is ∙ ap (map pair_of) e in
     find_is plan.params p call.entered.id [] kept.journal d.participant
     ∙ find_call p plan.params kept.journal kept.turns call xs ys (lines_of p [] kept.journal) d pairs (lines_in p kept.journal) differ
   where

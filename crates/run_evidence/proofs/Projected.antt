@@ -1,4 +1,4 @@
--- The calls of a way in one bucket are those of its operations that go there.
+-- A participant's calls in one bucket are those of its operations that go there.
 use Rattle.std.proofs.Common.{◌≡◌, ℕ, zero, suc, ◌+◌, ◌<◌, ◌≤◌, Bool, true, false, if◌then◌else◌, List, [], ◌∷◌, ◌++◌, refl, sym, ◌∙◌, ap, subst, arith, eq-eqb}
 use Rattle.std.specs.List.{AllByRecursion}
 use Rattle.std.specs.Option.{option_to_list}
@@ -18,7 +18,7 @@ use Rattle.neigh_run.specs.Merged.{Entered, packet_op, goes_to, control_op, cont
 use Rattle.neigh_run.specs.Threaded.{slow_ops}
 use Rattle.run_evidence.specs.Tokens.{Call}
 use Rattle.run_evidence.specs.Stamps.{calls_in}
-use Rattle.run_evidence.specs.Evidence.{Window, ControlDone, PacketDone, control_calls, sender_calls, all_deeds, in_bucket, stamp_window_at, IsEntered, AreControlDone, IsPacketDone, ArePacketsDone}
+use Rattle.run_evidence.specs.Evidence.{Window, ControlDone, PacketDone, control_calls, sender_calls, all_done_items, in_bucket, stamp_window_at, IsEntered, AreControlDone, IsPacketDone, ArePacketsDone}
 use Rattle.run_evidence.proofs.Matched.{entered_by}
 
 -- ---- one bucket's calls
@@ -26,12 +26,12 @@ use Rattle.run_evidence.proofs.Matched.{entered_by}
 pub in_bucket-append : (b : ℕ) (xs ys : List Call) → in_bucket b (xs ++ ys) ≡ in_bucket b xs ++ in_bucket b ys
 in_bucket-append b xs ys = filter-append (λ (call : Call). call.bucket == b) xs ys
 
-pub calls_at : {D : Type 0} (calls : D → List Call) (b : ℕ) (rounds : List (Window D)) → calls_in (map (stamp_window_at calls b) rounds) ≡ in_bucket b (flat_map calls (all_deeds rounds))
+pub calls_at : {D : Type 0} (calls : D → List Call) (b : ℕ) (windows : List (Window D)) → calls_in (map (stamp_window_at calls b) windows) ≡ in_bucket b (flat_map calls (all_done_items windows))
 calls_at calls b [] = refl
-calls_at calls b (round ∷ rounds) =
-    ap (λ cs. in_bucket b (flat_map calls round.deeds) ++ cs) (calls_at calls b rounds)
-    ∙ sym (in_bucket-append b (flat_map calls round.deeds) (flat_map calls (all_deeds rounds)))
-    ∙ ap (in_bucket b) (sym (flat_map-append calls round.deeds (all_deeds rounds)))
+calls_at calls b (window ∷ windows) =
+    ap (λ cs. in_bucket b (flat_map calls window.done_items) ++ cs) (calls_at calls b windows)
+    ∙ sym (in_bucket-append b (flat_map calls window.done_items) (flat_map calls (all_done_items windows)))
+    ∙ ap (in_bucket b) (sym (flat_map-append calls window.done_items (all_done_items windows)))
 
 -- ---- participant 0's operations
 
@@ -102,18 +102,18 @@ once_in b first (suc n) plan entered calls from to e each = by_test (goes_to pla
             lt_of x y le d = omega (arith, le, d)
 
 -- participant 0's calls in a bucket are those of its operations that go there
-pub control_projected : (plan : Plan) (b : ℕ) (s : HostState) (n : ℕ) (deeds : List ControlDone) → b < plan.buckets → AreControlDone plan s n deeds
-    → map entered_by (in_bucket b (flat_map control_calls deeds)) ≡ filter (λ (entered : Entered). goes_to plan.buckets b entered.op) (control_ops plan s n (map (λ (deed : ControlDone). deed.item) deeds))
+pub control_projected : (plan : Plan) (b : ℕ) (s : HostState) (n : ℕ) (done_items : List ControlDone) → b < plan.buckets → AreControlDone plan s n done_items
+    → map entered_by (in_bucket b (flat_map control_calls done_items)) ≡ filter (λ (entered : Entered). goes_to plan.buckets b entered.op) (control_ops plan s n (map (λ (done_item : ControlDone). done_item.item) done_items))
 control_projected plan b s n [] lt h = refl
-control_projected plan b s n (deed ∷ deeds) lt h =
-    ap (map entered_by) (in_bucket-append b deed.calls (flat_map control_calls deeds))
-    ∙ map-append entered_by (in_bucket b deed.calls) (in_bucket b (flat_map control_calls deeds))
-    ∙ ap (λ xs. xs ++ map entered_by (in_bucket b (flat_map control_calls deeds))) (one (control_op plan s n deed.item) h.0.entered)
-    ∙ ap (λ xs. filter (λ (entered : Entered). goes_to plan.buckets b entered.op) (option_to_list (control_op plan s n deed.item)) ++ xs) (control_projected plan b (turn plan s n deed.item).behind (n + 1) deeds lt h.1)
-    ∙ sym (filter-append (λ (entered : Entered). goes_to plan.buckets b entered.op) (option_to_list (control_op plan s n deed.item)) (control_ops plan (turn plan s n deed.item).behind (n + 1) (map (λ (deed : ControlDone). deed.item) deeds)))
+control_projected plan b s n (done_item ∷ done_items) lt h =
+    ap (map entered_by) (in_bucket-append b done_item.calls (flat_map control_calls done_items))
+    ∙ map-append entered_by (in_bucket b done_item.calls) (in_bucket b (flat_map control_calls done_items))
+    ∙ ap (λ xs. xs ++ map entered_by (in_bucket b (flat_map control_calls done_items))) (one (control_op plan s n done_item.item) h.0.entered)
+    ∙ ap (λ xs. filter (λ (entered : Entered). goes_to plan.buckets b entered.op) (option_to_list (control_op plan s n done_item.item)) ++ xs) (control_projected plan b (turn plan s n done_item.item).behind (n + 1) done_items lt h.1)
+    ∙ sym (filter-append (λ (entered : Entered). goes_to plan.buckets b entered.op) (option_to_list (control_op plan s n done_item.item)) (control_ops plan (turn plan s n done_item.item).behind (n + 1) (map (λ (done_item : ControlDone). done_item.item) done_items)))
   where
-    one : (o : Option Entered) → IsEntered plan o deed.calls → map entered_by (in_bucket b deed.calls) ≡ filter (λ (entered : Entered). goes_to plan.buckets b entered.op) (option_to_list o)
-    one (Some entered) h = once_in b 0 plan.buckets plan entered deed.calls (omega arith) (omega (arith, lt)) h.buckets h.each
+    one : (o : Option Entered) → IsEntered plan o done_item.calls → map entered_by (in_bucket b done_item.calls) ≡ filter (λ (entered : Entered). goes_to plan.buckets b entered.op) (option_to_list o)
+    one (Some entered) h = once_in b 0 plan.buckets plan entered done_item.calls (omega arith) (omega (arith, lt)) h.buckets h.each
     one None h = ap (λ cs. map entered_by (in_bucket b cs)) h
 
 one_call : (b : ℕ) (call : Call) (at : ℕ) (x : Entered) (more : List Entered) → call.bucket ≡ at → call.entered ≡ x → map entered_by (in_bucket b (call ∷ [])) ++ more ≡ (if at == b then x ∷ more else more)
@@ -123,19 +123,19 @@ one_call b call at x more e is = subst (λ v. map entered_by (in_bucket b (call 
   by_test false = refl
 
 -- a sender's calls in a bucket are the sends of its slow packets to keys of the bucket
-pub sender_projected : (plan : Plan) (p b n : ℕ) (deeds : List PacketDone) → ArePacketsDone plan p n deeds
-    → map entered_by (in_bucket b (flat_map sender_calls deeds)) ≡ filter (λ (entered : Entered). goes_to plan.buckets b entered.op) (slow_ops p n (map (λ (deed : PacketDone). deed.item) deeds) (map (λ (deed : PacketDone). deed.outcome) deeds))
+pub sender_projected : (plan : Plan) (p b n : ℕ) (done_items : List PacketDone) → ArePacketsDone plan p n done_items
+    → map entered_by (in_bucket b (flat_map sender_calls done_items)) ≡ filter (λ (entered : Entered). goes_to plan.buckets b entered.op) (slow_ops p n (map (λ (done_item : PacketDone). done_item.item) done_items) (map (λ (done_item : PacketDone). done_item.outcome) done_items))
 sender_projected plan p b n [] h = refl
-sender_projected plan p b n (deed ∷ deeds) h =
-    ap (map entered_by) (in_bucket-append b deed.calls (flat_map sender_calls deeds))
-    ∙ map-append entered_by (in_bucket b deed.calls) (in_bucket b (flat_map sender_calls deeds))
-    ∙ ap (λ xs. map entered_by (in_bucket b deed.calls) ++ xs) (sender_projected plan p b (n + 1) deeds h.1)
-    ∙ one deed.outcome h.0
+sender_projected plan p b n (done_item ∷ done_items) h =
+    ap (map entered_by) (in_bucket-append b done_item.calls (flat_map sender_calls done_items))
+    ∙ map-append entered_by (in_bucket b done_item.calls) (in_bucket b (flat_map sender_calls done_items))
+    ∙ ap (λ xs. map entered_by (in_bucket b done_item.calls) ++ xs) (sender_projected plan p b (n + 1) done_items h.1)
+    ∙ one done_item.outcome h.0
   where
-    one : (o : Outcome) → IsPacketDone plan p n deed o
-        → map entered_by (in_bucket b deed.calls) ++ filter (λ (entered : Entered). goes_to plan.buckets b entered.op) (slow_ops p (n + 1) (map (λ (deed : PacketDone). deed.item) deeds) (map (λ (deed : PacketDone). deed.outcome) deeds))
-        ≡ filter (λ (entered : Entered). goes_to plan.buckets b entered.op) (slow_ops p n (deed.item ∷ map (λ (deed : PacketDone). deed.item) deeds) (o ∷ map (λ (deed : PacketDone). deed.outcome) deeds))
-    one (outcome.Fast number header) h = ap (λ cs. map entered_by (in_bucket b cs) ++ filter (λ (entered : Entered). goes_to plan.buckets b entered.op) (slow_ops p (n + 1) (map (λ (deed : PacketDone). deed.item) deeds) (map (λ (deed : PacketDone). deed.outcome) deeds))) h
+    one : (o : Outcome) → IsPacketDone plan p n done_item o
+        → map entered_by (in_bucket b done_item.calls) ++ filter (λ (entered : Entered). goes_to plan.buckets b entered.op) (slow_ops p (n + 1) (map (λ (done_item : PacketDone). done_item.item) done_items) (map (λ (done_item : PacketDone). done_item.outcome) done_items))
+        ≡ filter (λ (entered : Entered). goes_to plan.buckets b entered.op) (slow_ops p n (done_item.item ∷ map (λ (done_item : PacketDone). done_item.item) done_items) (o ∷ map (λ (done_item : PacketDone). done_item.outcome) done_items))
+    one (outcome.Fast number header) h = ap (λ cs. map entered_by (in_bucket b cs) ++ filter (λ (entered : Entered). goes_to plan.buckets b entered.op) (slow_ops p (n + 1) (map (λ (done_item : PacketDone). done_item.item) done_items) (map (λ (done_item : PacketDone). done_item.outcome) done_items))) h
     one (outcome.Slow why place reply) h =
-        ap (λ cs. map entered_by (in_bucket b cs) ++ filter (λ (entered : Entered). goes_to plan.buckets b entered.op) (slow_ops p (n + 1) (map (λ (deed : PacketDone). deed.item) deeds) (map (λ (deed : PacketDone). deed.outcome) deeds))) h.one
-        ∙ one_call b h.call (bucket_of plan.buckets deed.item.key) (packet_op p n deed.item) (filter (λ (entered : Entered). goes_to plan.buckets b entered.op) (slow_ops p (n + 1) (map (λ (deed : PacketDone). deed.item) deeds) (map (λ (deed : PacketDone). deed.outcome) deeds))) h.bucket h.entered
+        ap (λ cs. map entered_by (in_bucket b cs) ++ filter (λ (entered : Entered). goes_to plan.buckets b entered.op) (slow_ops p (n + 1) (map (λ (done_item : PacketDone). done_item.item) done_items) (map (λ (done_item : PacketDone). done_item.outcome) done_items))) h.one
+        ∙ one_call b h.call (bucket_of plan.buckets done_item.item.key) (packet_op p n done_item.item) (filter (λ (entered : Entered). goes_to plan.buckets b entered.op) (slow_ops p (n + 1) (map (λ (done_item : PacketDone). done_item.item) done_items) (map (λ (done_item : PacketDone). done_item.outcome) done_items))) h.bucket h.entered

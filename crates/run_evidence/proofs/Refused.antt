@@ -11,15 +11,16 @@ use Rattle.nb_base.specs.declared.params.Params.{Params}
 use Rattle.nb_base.specs.declared.line.Line.{Line}
 use Rattle.nb_journal.specs.Keys.{is_own}
 use Rattle.nb_journal.specs.Accounts.{own_lines}
-use Rattle.nb_journal.specs.Lawful.{each_line, IsOrderly}
+use Rattle.nb_journal.specs.Lawful.{each_line, IsOrderly, Stands, Lawful, BrokenOff}
 use Rattle.nb_journal.proofs.Bound.{lawful_in_bound, broken_off_in_bound}
 use Rattle.bucket_stamps.specs.declared.view.Turn.{Turn}
-use Rattle.bucket_stamps.specs.Own.{participant_of, pair_by, pairs_from, turns_of, IsLineOfOne}
+use Rattle.nb_base.specs.Ids.{participant_of}
+use Rattle.bucket_stamps.specs.Own.{pair_by, pairs_from, turns_of, IsLineOfOne}
 use Rattle.run_evidence.specs.Tokens.{Shown, turn_by}
-use Rattle.run_evidence.specs.Refused.{Stands, Whole, Broken, ShownGoOn, AreGivenUpWithin, together, NoJournalIsFull}
+use Rattle.run_evidence.specs.Refused.{ShownGoOn, AreGivenUpWithin, together, NoJournalIsFull}
 use Rattle.run_evidence.proofs.Lists.{all_map, all_append, all_begins}
 use Rattle.run_evidence.proofs.Turns.{adds_turns, each_turn, greatest-within}
-use Rattle.run_evidence.proofs.Spans.{call_turns}
+use Rattle.run_evidence.proofs.Histories.{call_turns}
 
 -- ---- what a stamp shows goes on
 
@@ -144,8 +145,8 @@ own_named before (l ∷ ls) more h = by_test (is_own l.op) h.0 (own_named (befor
   by_test false e r = let n = ap (λ (t : Bool). length (if t then l ∷ named ls else named ls)) e in omega (arith, n, r)
 
 orderly_of : (params : Params) (lines : List Line) (clock : ℕ) → Stands params lines clock → IsOrderly params lines
-orderly_of params lines clock (Whole lawful) = lawful.orderly
-orderly_of params lines clock (Broken broken) = broken.orderly
+orderly_of params lines clock (Lawful lawful) = lawful.orderly
+orderly_of params lines clock (BrokenOff broken) = broken.orderly
 
 -- ---- the law
 
@@ -176,5 +177,5 @@ no_journal_is_full params limit moment operations journal turns most shown p old
   size = length-append call.after.past call.lines
 
   by_stands : Stands params lines call.clock → ⊥
-  by_stands (Whole lawful) = let lt = lawful_in_bound params lines call.clock moment operations r lawful early own in let full = refused.full in omega (arith, lt, size, full, bound)
-  by_stands (Broken broken) = let lt = broken_off_in_bound params lines call.clock moment operations r broken early own in let full = refused.full in omega (arith, lt, size, full, bound)
+  by_stands (Lawful lawful) = let lt = lawful_in_bound params lines call.clock moment operations r lawful early own in let full = refused.full in omega (arith, lt, size, full, bound)
+  by_stands (BrokenOff broken) = let lt = broken_off_in_bound params lines call.clock moment operations r broken early own in let full = refused.full in omega (arith, lt, size, full, bound)

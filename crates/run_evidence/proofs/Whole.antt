@@ -3,7 +3,7 @@ use Rattle.std.proofs.Common.{refl}
 use Rattle.run_evidence.specs.Laws.{ShowsOrder, ShowsRun}
 use Rattle.change_order.specs.Orders.{CountsGiveOneOrder}
 use Rattle.run_evidence.proofs.Assembled.{shows_marks, shows_lawful, shows_lines}
-use Rattle.run_evidence.proofs.Ways.{shows_logs, shows_places}
+use Rattle.run_evidence.proofs.SenderRuns.{shows_logs, shows_places}
 use Rattle.run_evidence.proofs.HostLines.{shows_host_lines}
 use Rattle.run_evidence.proofs.Packets.{shows_bounds, shows_causes}
 use Rattle.run_evidence.proofs.Ended.{shows_ends}

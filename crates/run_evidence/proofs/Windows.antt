@@ -65,17 +65,17 @@ same_starts (x ∷ xs) (y ∷ ys) e =
     let rest = same_starts xs ys tail in
     cc
 
-starts_marks : (plan : Plan) (spans : List StampWindow) (ended : ℕ) → map (λ (m : Option ℕ × ℕ). m.0) (map (λ (span : StampWindow). (Some (span.window * plan.window), span.mark)) spans ++ (None, ended) ∷ []) ≡ map (λ (x : ℕ). Some x) (starts_of plan spans) ++ None ∷ []
+starts_marks : (plan : Plan) (spans : List StampWindow) (ended : ℕ) → map (λ (m : Option ℕ × ℕ). m.0) (map (λ (span : StampWindow). (Some (span.number * plan.window), span.mark)) spans ++ (None, ended) ∷ []) ≡ map (λ (x : ℕ). Some x) (starts_of plan spans) ++ None ∷ []
 starts_marks plan [] ended = refl
-starts_marks plan (span ∷ spans) ended = ap (λ os. Some (span.window * plan.window) ∷ os) (starts_marks plan spans ended)
+starts_marks plan (span ∷ spans) ended = ap (λ os. Some (span.number * plan.window) ∷ os) (starts_marks plan spans ended)
 
 starts_column : (b : ℕ) (marks : List Mark) → map (λ (m : Option ℕ × ℕ). m.0) (column b marks) ≡ map (λ (mark : Mark). mark.start) marks
 starts_column b [] = refl
 starts_column b (mark ∷ marks) = ap (λ os. mark.start ∷ os) (starts_column b marks)
 
--- a trace with the run's marks has the plan's windows
-pub trace_starts : (plan : Plan) (b : ℕ) (marks : List Mark) (trace : StampHistory) → map (λ (mark : Mark). mark.start) marks ≡ map Some (starts plan) ++ None ∷ [] → marks_in plan trace ≡ column b marks → starts_of plan trace.spans ≡ starts plan
-trace_starts plan b marks trace e m = same_starts (starts_of plan trace.spans) (starts plan) (sym (starts_marks plan trace.spans trace.ended) ∙ ap (map (λ (m : Option ℕ × ℕ). m.0)) m ∙ starts_column b marks ∙ e)
+-- a history with the run's marks has the plan's windows
+pub history_starts : (plan : Plan) (b : ℕ) (marks : List Mark) (history : StampHistory) → map (λ (mark : Mark). mark.start) marks ≡ map Some (starts plan) ++ None ∷ [] → marks_in plan history ≡ column b marks → starts_of plan history.windows ≡ starts plan
+history_starts plan b marks history e m = same_starts (starts_of plan history.windows) (starts plan) (sym (starts_marks plan history.windows history.ended) ∙ ap (map (λ (m : Option ℕ × ℕ). m.0)) m ∙ starts_column b marks ∙ e)
 
-pub trace_climbs : (plan : Plan) (b : ℕ) (marks : List Mark) (trace : StampHistory) → 0 < plan.window → map (λ (mark : Mark). mark.start) marks ≡ map Some (starts plan) ++ None ∷ [] → marks_in plan trace ≡ column b marks → Climbs (starts_of plan trace.spans)
-trace_climbs plan b marks trace some e m = subst Climbs (sym (trace_starts plan b marks trace e m)) (starts_climb plan some)
+pub history_climbs : (plan : Plan) (b : ℕ) (marks : List Mark) (history : StampHistory) → 0 < plan.window → map (λ (mark : Mark). mark.start) marks ≡ map Some (starts plan) ++ None ∷ [] → marks_in plan history ≡ column b marks → Climbs (starts_of plan history.windows)
+history_climbs plan b marks history some e m = subst Climbs (sym (history_starts plan b marks history e m)) (starts_climb plan some)

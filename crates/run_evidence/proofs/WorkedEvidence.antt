@@ -26,7 +26,7 @@ use Rattle.neigh_run.proofs.ThreadedRuns.{nil_lawful, stale_one, stale_two, stal
 use Rattle.run_evidence.specs.Tokens.{Shown, Call, IsMet}
 use Rattle.run_evidence.specs.Stamps.{IsStampHistory, IsBucketEvidence}
 use Rattle.run_evidence.specs.Holds.{Hold, AreKnown}
-use Rattle.run_evidence.specs.Evidence.{Window, ParticipantRun, ControlDone, PacketDone, Evidence, column, kept_at, control_calls, sender_calls, history_at, RoundsHold, last_hold, IsEvidence}
+use Rattle.run_evidence.specs.Evidence.{Window, ParticipantRun, ControlDone, PacketDone, Evidence, column, bucket_at, control_calls, sender_calls, history_at, WindowsLeaveHold, last_hold, IsEvidence}
 
 -- ---- one bucket: a stale entry is added at 0, and a sender sends to it at 50 and at 100
 
@@ -95,12 +95,12 @@ abbrev second_call : Call
 second_call = record { bucket = 0; entered = record { at = 100; id = id 65; op = op.Send k1 1 }; place = 2; reply = reply.Sent; past = j2; line = send_line 100 65; earlier = t5; after = shown stale_sends t6 own2 }
 
 abbrev window : {D : Type 0} → ℕ → ℕ → Shown → (Key → Option Hold) → List D → ℕ → Shown → (Key → Option Hold) → Window D
-window n mark opened opened_holds deeds met closed closed_holds =
-    record { window = n; marked = mark ∷ []; opened = opened ∷ []; opened_holds = opened_holds; deeds = deeds; met = met ∷ []; closed = closed ∷ []; closed_holds = closed_holds }
+window n mark opened opened_holds done_items met closed closed_holds =
+    record { number = n; marked = mark ∷ []; opened = opened ∷ []; opened_holds = opened_holds; done_items = done_items; met = met ∷ []; closed = closed ∷ []; closed_holds = closed_holds }
 
 abbrev control_run : ParticipantRun ControlDone
 control_run = record {
-  rounds =
+  windows =
       window 0 0 (shown [] t1 []) no_hold (record { item = control.Neigh 0 (op.Add k1 (Some mac_a) nud.Stale); calls = add_call ∷ []; lines = added } ∷ []) 1 (shown j1 t2 own0) no_hold
       ∷ window 1 1 (shown j1 t3 own0) no_hold [] 2 (shown j2 t4 own0) no_hold
       ∷ window 2 2 (shown j2 t5 own0) no_hold [] 3 (shown stale_sends t6 own0) no_hold
@@ -111,7 +111,7 @@ control_run = record {
 
 abbrev sender_run : ParticipantRun PacketDone
 sender_run = record {
-  rounds =
+  windows =
       window 0 0 (shown [] t1 []) no_hold [] 1 (shown j1 t2 []) no_hold
       ∷ window 1 1 (shown j1 t3 []) no_hold (record { item = send 50 17; outcome = slow 1; calls = first_call ∷ []; holds = holds_one fresh } ∷ []) 2 (shown j2 t4 own1) (holds_one fresh)
       ∷ window 2 2 (shown j2 t5 own1) (holds_one fresh) (record { item = send 100 18; outcome = suspect 0 2; calls = second_call ∷ []; holds = holds_one read } ∷ []) 3 (shown stale_sends t6 own2) (holds_one read)
@@ -192,7 +192,7 @@ sender_history = (
   ),
 )
 
-bucket_evidence : IsBucketEvidence stale (column 0 three_marks) (kept_at 0 evidence)
+bucket_evidence : IsBucketEvidence stale (column 0 three_marks) (bucket_at 0 evidence)
 unfolding state_of change is_key known_keys reply_of
 bucket_evidence = record {
   participants = refl;
@@ -219,7 +219,7 @@ by_key P same other key = by_test (is_key k1 key) refl where
   by_test true e = subst P (is_key-one k1 key e) same
   by_test false e = other key e
 
-holds_here : RoundsHold stale k1 None sender_run.rounds
+holds_here : WindowsLeaveHold stale k1 None sender_run.windows
 unfolding state_of change is_key known_keys published
 holds_here = (
   refl,
@@ -238,15 +238,15 @@ holds_here = (
   ),
 )
 
-holds_all : (key : Key) → RoundsHold stale key None sender_run.rounds
-holds_all = by_key (λ key. RoundsHold stale key None sender_run.rounds) holds_here (λ key e. rw e (refl, refl, (refl, (rw e refl, refl), (refl, (rw e refl, refl), tt))))
+holds_all : (key : Key) → WindowsLeaveHold stale key None sender_run.windows
+holds_all = by_key (λ key. WindowsLeaveHold stale key None sender_run.windows) holds_here (λ key e. rw e (refl, refl, (refl, (rw e refl, refl), (refl, (rw e refl, refl), tt))))
 
-known_here : AreKnown (published stale.params stale.host (slice_index_or (stale_sends ∷ []) (bucket_of stale.buckets k1) []) k1) (last_hold k1 None sender_run.rounds)
+known_here : AreKnown (published stale.params stale.host (slice_index_or (stale_sends ∷ []) (bucket_of stale.buckets k1) []) k1) (last_hold k1 None sender_run.windows)
 unfolding state_of change is_key known_keys published
 known_here = (refl, tt)
 
-known_all : (key : Key) → AreKnown (published stale.params stale.host (slice_index_or (stale_sends ∷ []) (bucket_of stale.buckets key) []) key) (last_hold key None sender_run.rounds)
-known_all = by_key (λ key. AreKnown (published stale.params stale.host (slice_index_or (stale_sends ∷ []) (bucket_of stale.buckets key) []) key) (last_hold key None sender_run.rounds)) known_here (λ key e. rw e tt)
+known_all : (key : Key) → AreKnown (published stale.params stale.host (slice_index_or (stale_sends ∷ []) (bucket_of stale.buckets key) []) key) (last_hold key None sender_run.windows)
+known_all = by_key (λ key. AreKnown (published stale.params stale.host (slice_index_or (stale_sends ∷ []) (bucket_of stale.buckets key) []) key) (last_hold key None sender_run.windows)) known_here (λ key e. rw e tt)
 
 -- ---- the whole
 
@@ -268,7 +268,7 @@ worked_evidence = record {
   buckets = refl;
   starts = refl;
   lengths = (refl, (refl, (refl, (refl, tt))));
-  kept = one;
+  each_bucket = one;
   counted = counted;
   counts = (record { changes = refl; chosen = (0, 0) ∷ []; among = ([], [], refl, tt); lines = (record { value = refl; many = omega arith; behind = tt; ahead = (omega arith, tt) }, tt) }, tt);
   control = record { items = refl; done = (record { entered = record { buckets = refl; each = (refl, tt) }; lines = refl }, tt) };
@@ -286,6 +286,6 @@ worked_evidence = record {
     tt,
   );
 } where
-  one : (b : ℕ) → b < 1 → IsBucketEvidence stale (column b three_marks) (kept_at b evidence)
+  one : (b : ℕ) → b < 1 → IsBucketEvidence stale (column b three_marks) (bucket_at b evidence)
   one zero lt = bucket_evidence
   one (suc b) lt = absurd (omega (arith, lt))

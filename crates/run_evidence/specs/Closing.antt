@@ -18,7 +18,7 @@ use Rattle.neigh_run.specs.Threaded.{IsLawfulFrom, IsThreadedRun}
 use Rattle.run_evidence.specs.Tokens.{Shown, nothing_shown, Call, IsGivenUp}
 use Rattle.run_evidence.specs.Stamps.{IsWholeBucket}
 use Rattle.run_evidence.specs.Holds.{Hold, AreKnown}
-use Rattle.run_evidence.specs.Evidence.{Window, ParticipantRun, ControlDone, PacketDone, control_calls, sender_calls, all_deeds, shown_at, Evidence, run_of, last_hold, AreControlDone, IsControlRun}
+use Rattle.run_evidence.specs.Evidence.{Window, ParticipantRun, ControlDone, PacketDone, control_calls, sender_calls, all_done_items, shown_at, Evidence, run_of, last_hold, AreControlDone, IsControlRun}
 use Rattle.run_evidence.specs.Growing.{ItemsTo, AreMet, WindowsTo, SenderTo}
 
 -- ---- the ends of the loops
@@ -26,16 +26,16 @@ use Rattle.run_evidence.specs.Growing.{ItemsTo, AreMet, WindowsTo, SenderTo}
 -- a participant's windows, and the last mark
 pub record IsLedThrough {D : Type 0} (calls : D → List Call) (p : ℕ) (plan : Plan) (own : ParticipantRun D) : Type 0 where
   pub now : List Shown
-  pub windows : WindowsTo calls p plan (replicate plan.buckets nothing_shown) own.rounds now
+  pub windows : WindowsTo calls p plan (replicate plan.buckets nothing_shown) own.windows now
   pub ended : AreMet p now own.after own.ended (λ b. [])
 
 -- the lengths that a participant was told before its windows, each with the window's first moment
 abbrev pub lengths_opened : {D : Type 0} → Plan → List (Window D) → List (Option ℕ × List ℕ)
-lengths_opened {D} plan windows = map (λ (window : Window D). (Some (window.window * plan.window), window.marked)) windows
+lengths_opened {D} plan windows = map (λ (window : Window D). (Some (window.number * plan.window), window.marked)) windows
 
 -- those that it was told in all: the last mark has no moment
 abbrev pub lengths_told : {D : Type 0} → Plan → ParticipantRun D → List (Option ℕ × List ℕ)
-lengths_told plan own = lengths_opened plan own.rounds ++ (None, own.ended) ∷ []
+lengths_told plan own = lengths_opened plan own.windows ++ (None, own.ended) ∷ []
 
 -- the same of the marks
 abbrev pub lengths_marked : List Mark → List (Option ℕ × List ℕ)
@@ -47,28 +47,28 @@ HasMarks plan marks own = lengths_told plan own ≡ lengths_marked marks
 
 -- the lines of each bucket that the barrier before a window counts are lawful from the window's first moment on
 abbrev pub IsOpened : Plan → Window ControlDone → Type 0
-IsOpened plan window = (b : ℕ) → b < plan.buckets → IsLawfulFrom plan.params (window.window * plan.window) (take (slice_index_or window.marked b 0) (shown_at b window.opened).past)
+IsOpened plan window = (b : ℕ) → b < plan.buckets → IsLawfulFrom plan.params (window.number * plan.window) (take (slice_index_or window.marked b 0) (shown_at b window.opened).past)
 
 -- participant 0's loop: its windows, each opened by a barrier, and its items
 pub record IsControlLed (plan : Plan) (marks : List Mark) (own : ParticipantRun ControlDone) : Type 0 where
   pub led : IsLedThrough control_calls 0 plan own
   pub told : HasMarks plan marks own
-  pub opened : AllByRecursion (IsOpened plan) own.rounds
+  pub opened : AllByRecursion (IsOpened plan) own.windows
   pub run : IsControlRun plan own
 
 -- a sender's loop: its windows, its items, its packets and its holds
 pub record IsSenderLed (plan : Plan) (marks : List Mark) (p : ℕ) (items : List SendItem) (own : ParticipantRun PacketDone) : Type 0 where
   pub led : IsLedThrough sender_calls p plan own
   pub told : HasMarks plan marks own
-  pub items_are : map (λ (deed : PacketDone). deed.item) (all_deeds own.rounds) ≡ items
+  pub items_are : map (λ (packet : PacketDone). packet.item) (all_done_items own.windows) ≡ items
   pub holds : Key → Option Hold
-  pub sender : SenderTo plan p own.rounds holds
+  pub sender : SenderTo plan p own.windows holds
 
 -- ---- the loops
 
 -- the windows so far of participant 0: its items, each in the state that those before have left, and the barriers before them
 pub record ControlTo (plan : Plan) (windows : List (Window ControlDone)) : Type 0 where
-  pub done : AreControlDone plan host_start 1 (all_deeds windows)
+  pub done : AreControlDone plan host_start 1 (all_done_items windows)
   pub opened : AllByRecursion (IsOpened plan) windows
 
 -- one window more of participant 0
@@ -77,7 +77,7 @@ OneMoreControlWindow =
     (plan : Plan) (windows : List (Window ControlDone)) (window : Window ControlDone) (now : List Shown)
     → ControlTo plan windows
     → IsOpened plan window
-    → ItemsTo plan (state_behind plan host_start 1 (map (λ (deed : ControlDone). deed.item) (all_deeds windows))) (1 + length (all_deeds windows)) window.opened window.deeds now
+    → ItemsTo plan (state_behind plan host_start 1 (map (λ (done : ControlDone). done.item) (all_done_items windows))) (1 + length (all_done_items windows)) window.opened window.done_items now
     → ControlTo plan (windows ++ window ∷ [])
 
 -- the marks so far have the lengths that a participant was told
@@ -86,8 +86,8 @@ MarksTo plan windows marks = lengths_opened plan windows ≡ lengths_marked mark
 
 -- one window more and its mark, and the mark at the end, of either kind of participant
 pub record MarksGoOnOf (D : Type 0) : Type 0 where
-  pub more : (plan : Plan) (windows : List (Window D)) (window : Window D) (marks : List Mark) → MarksTo plan windows marks → MarksTo plan (windows ++ window ∷ []) (marks ++ record { start = Some (window.window * plan.window); lengths = window.marked } ∷ [])
-  pub last : (plan : Plan) (own : ParticipantRun D) (marks : List Mark) → MarksTo plan own.rounds marks → HasMarks plan (marks ++ record { start = None; lengths = own.ended } ∷ []) own
+  pub more : (plan : Plan) (windows : List (Window D)) (window : Window D) (marks : List Mark) → MarksTo plan windows marks → MarksTo plan (windows ++ window ∷ []) (marks ++ record { start = Some (window.number * plan.window); lengths = window.marked } ∷ [])
+  pub last : (plan : Plan) (own : ParticipantRun D) (marks : List Mark) → MarksTo plan own.windows marks → HasMarks plan (marks ++ record { start = None; lengths = own.ended } ∷ []) own
 
 pub record MarksGoOn : Type 0 where
   pub control : MarksGoOnOf ControlDone
@@ -101,7 +101,7 @@ GivesUp plan journals turns p own = (b : ℕ) → b < plan.buckets → IsGivenUp
 
 -- a sender gives up its holds
 abbrev pub GivesHoldsUp : Plan → List (List Line) → ParticipantRun PacketDone → Type 0
-GivesHoldsUp plan journals own = (key : Key) → AreKnown (published plan.params plan.host (slice_index_or journals (bucket_of plan.buckets key) []) key) (last_hold key None own.rounds)
+GivesHoldsUp plan journals own = (key : Key) → AreKnown (published plan.params plan.host (slice_index_or journals (bucket_of plan.buckets key) []) key) (last_hold key None own.windows)
 
 -- the senders from p on: each loop, and what giving up its tokens tells
 abbrev pub AreSendersLed : Plan → Evidence → ℕ → List (List SendItem) → List (ParticipantRun PacketDone) → Type 0
@@ -111,6 +111,7 @@ AreSendersLed plan e p _ _ = ⊥
 
 -- ---- both together
 
+-- the marks, the loops, and what giving up all tokens tells of the buckets and of the census
 pub record IsGathered (plan : Plan) (e : Evidence) : Type 0 where
   -- the marks are those of the plan's windows, with a length for each bucket
   pub starts : map (λ (mark : Mark). mark.start) e.marks ≡ mark_starts plan

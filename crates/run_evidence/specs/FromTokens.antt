@@ -1,4 +1,4 @@
--- What the calls of stamps and of passes say in their own terms gives what evidence asks of them.
+-- What the calls of stamps and of passes say in their own terms gives what evidence asks of them (this project's own).
 use Rattle.std.specs.Prelude.{◌≡◌, ℕ, ◌-◌, ◌≤◌, true, List, [], ◌∷◌, ◌++◌, length, Some, None, All}
 use Rattle.std.specs.List.Sorted.{IsNonDecreasing}
 use Rattle.nb_base.specs.declared.key.Key.{Key}
@@ -10,7 +10,8 @@ use Rattle.nb_journal.specs.Keys.{is_own}
 use Rattle.nb_journal.specs.Fold.{reply_of}
 use Rattle.nb_journal.specs.Accounts.{published}
 use Rattle.bucket_stamps.specs.declared.view.Turn.{Turn}
-use Rattle.bucket_stamps.specs.Own.{participant_of, turns_of}
+use Rattle.nb_base.specs.Ids.{participant_of}
+use Rattle.bucket_stamps.specs.Own.{turns_of}
 use Rattle.bucket_stamps.specs.Shown.{StampShown, StamperShown, Agrees, SeesMore, turn_behind}
 use Rattle.hh_core.specs.Safe.{both_numbers}
 use Rattle.hh_cell.specs.declared.cell.Obtained.TheVariants as obtained
@@ -47,7 +48,7 @@ pub record MadeCall (params : Params) (old new : StampShown) (call : Call) : Typ
 abbrev pub CallsAreEvidence : Type 0
 CallsAreEvidence = (params : Params) (old new : StampShown) (call : Call) → MadeCall params old new call → IsCall old.participant params (shown_of old) call
 
--- a meeting, or an advance that made lines of the bucket's own and its turn, where the journal's length behind it was told
+-- a stamp that a barrier met, perhaps by an advance, which made lines of the bucket's own and its turn; the length that was told is the journal's behind it
 abbrev pub MeetingsAreEvidence : Type 0
 MeetingsAreEvidence =
     (old new : StampShown) (made : List Line) (last : List Turn)

@@ -15,7 +15,7 @@ use Rattle.hh_core.specs.Safe.{both_numbers}
 use Rattle.neigh_run.specs.Plan.{RisesFrom}
 use Rattle.neigh_run.specs.Bounds.{number_at}
 
--- a pass's floor, the records that it knows with their numbers, and its tries
+-- a hold is a pass to the key's cell: its floor, below whose number it reads no record; the records that it has read, with their numbers; and the numbers of its tries
 pub record Hold : Type 0 where
   pub floor : ℕ
   pub known : List (ℕ × Record)

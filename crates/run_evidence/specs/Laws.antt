@@ -1,4 +1,4 @@
--- The laws of evidence: what its calls say, one by one, makes it a run with a thread for each participant.
+-- The laws of evidence: what its calls say, one by one, makes it a run with a thread for each participant (this project's own).
 use Rattle.std.specs.Prelude.{◌≡◌, ◌<◌, map, length}
 use Rattle.std.specs.List.{AllByRecursion}
 use Rattle.nb_base.specs.declared.plan.Plan.{Plan}

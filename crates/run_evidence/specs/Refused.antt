@@ -5,18 +5,13 @@ use Rattle.nb_base.specs.declared.params.Params.{Params}
 use Rattle.nb_base.specs.declared.line.Line.{Line}
 use Rattle.nb_base.specs.Params.{InRange}
 use Rattle.nb_journal.specs.Accounts.{own_lines, line_bound}
-use Rattle.nb_journal.specs.Lawful.{IsLawful, IsBrokenOff}
+use Rattle.nb_journal.specs.Lawful.{Stands}
 use Rattle.bucket_stamps.specs.declared.view.Turn.{Turn}
 use Rattle.bucket_stamps.specs.Own.{turns_of, IsLineOfOne, IsTurnOfOne}
 use Rattle.neigh_run.specs.Merged.{Entered}
 use Rattle.run_evidence.specs.Tokens.{greatest_of, Shown, nothing_shown, Begins, Adds, Call, IsCall, IsMet, IsGivenUp}
 
 -- ---- a refused call
-
--- lines are lawful or broken off at a clock
-pub data Stands (params : Params) (lines : List Line) (clock : ℕ) : Type 0 where
-  Whole : IsLawful params lines clock → Stands params lines clock
-  Broken : IsBrokenOff params lines clock → Stands params lines clock
 
 -- a call that was told that its bucket's journal is full: what was asked, what the stamp shows behind it, and the lines that the call was to make at once, with their clock
 pub record Refused : Type 0 where

@@ -11,58 +11,60 @@ use Rattle.neigh_run.specs.Windows.{window_of}
 use Rattle.neigh_run.specs.Threaded.{IsLawfulFrom}
 use Rattle.run_evidence.specs.Tokens.{AllOk, greatest_of, Shown, nothing_shown, Call, IsCall, IsMet, opening_turns, IsGivenUp}
 
--- a window as one stamp saw it: the mark's length and what the stamp shows behind it, the participant's calls in the bucket, and the meeting behind the window
+-- a window as one stamp saw it, by its number: the length that the barrier before it told (its mark) and what the stamp shows behind that barrier; the participant's calls in the bucket; and the length that the barrier behind it told, and what the stamp shows then
 pub record StampWindow : Type 0 where
-  pub window : ℕ
+  pub number : ℕ
   pub mark : ℕ
   pub opened : Shown
   pub calls : List Call
   pub met : ℕ
   pub closed : Shown
 
--- all windows, and the last mark
+-- all windows, the length at the last mark, and what the stamp shows in the end
 pub record StampHistory : Type 0 where
-  pub spans : List StampWindow
+  pub windows : List StampWindow
   pub ended : ℕ
   pub after : Shown
 
 -- a window's first moment
 abbrev pub start_of : Plan → StampWindow → ℕ
-start_of plan span = span.window * plan.window
+start_of plan window = window.number * plan.window
 
--- the turns that its mark made for participant p
+-- the turns that the barrier before it made for participant p
 abbrev pub advances : ℕ → Plan → StampWindow → List Turn
-advances p plan span = opening_turns p (start_of plan span) span.mark
+advances p plan window = opening_turns p (start_of plan window) window.mark
 
--- the calls of a window, and the meeting behind it
+-- the calls of a window, and the barrier behind it
 abbrev pub AreCalls : ℕ → Params → Shown → List Call → ℕ → Shown → Type 0
 AreCalls p params old [] met closed = IsMet p old closed met []
 AreCalls p params old (call ∷ calls) met closed = IsCall p params old call × AreCalls p params call.after calls met closed
 
--- a mark, the calls and the meeting of a window, whose items are done in it
-pub record IsStampWindow (p : ℕ) (plan : Plan) (old : Shown) (span : StampWindow) : Type 0 where
-  pub marked : IsMet p old span.opened span.mark (advances p plan span)
-  pub calls : AreCalls p plan.params span.opened span.calls span.met span.closed
-  pub items : AllByRecursion (λ (call : Call). window_of plan call.entered.at ≡ span.window) span.calls
+-- a window of a stamp: the barrier before it, the calls, whose items' moments lie in the window, and the barrier behind it
+pub record IsStampWindow (p : ℕ) (plan : Plan) (old : Shown) (window : StampWindow) : Type 0 where
+  pub marked : IsMet p old window.opened window.mark (advances p plan window)
+  pub calls : AreCalls p plan.params window.opened window.calls window.met window.closed
+  pub items : AllByRecursion (λ (call : Call). window_of plan call.entered.at ≡ window.number) window.calls
 
+-- the windows one after another, and behind them the last mark
 abbrev pub AreStampWindows : ℕ → Plan → Shown → List StampWindow → ℕ → Shown → Type 0
 AreStampWindows p plan old [] ended after = IsMet p old after ended []
-AreStampWindows p plan old (span ∷ spans) ended after = IsStampWindow p plan old span × AreStampWindows p plan span.closed spans ended after
+AreStampWindows p plan old (window ∷ windows) ended after = IsStampWindow p plan old window × AreStampWindows p plan window.closed windows ended after
 
 -- a participant's whole history with its stamp of a bucket
 abbrev pub IsStampHistory : ℕ → Plan → StampHistory → Type 0
-IsStampHistory p plan history = AreStampWindows p plan nothing_shown history.spans history.ended history.after
+IsStampHistory p plan history = AreStampWindows p plan nothing_shown history.windows history.ended history.after
 
--- the lines that a mark counts are lawful from the window's first moment on
+-- the lines that a window's mark counts are lawful from the window's first moment on
 abbrev pub IsOpening : Plan → StampWindow → Type 0
-IsOpening plan span = IsLawfulFrom plan.params (start_of plan span) (take span.mark span.opened.past)
+IsOpening plan window = IsLawfulFrom plan.params (start_of plan window) (take window.mark window.opened.past)
 
 -- the marks of a bucket, as a stamp saw them
 abbrev pub marks_in : Plan → StampHistory → List (Option ℕ × ℕ)
-marks_in plan history = map (λ (span : StampWindow). (Some (start_of plan span), span.mark)) history.spans ++ (None, history.ended) ∷ []
+marks_in plan history = map (λ (window : StampWindow). (Some (start_of plan window), window.mark)) history.windows ++ (None, history.ended) ∷ []
 
+-- the calls of all windows
 abbrev pub calls_in : List StampWindow → List Call
-calls_in spans = flat_map (λ (span : StampWindow). span.calls) spans
+calls_in windows = flat_map (λ (window : StampWindow). window.calls) windows
 
 -- ---- a bucket
 
@@ -80,7 +82,7 @@ AreStampHistories plan journal turns p (history ∷ histories) = (IsStampHistory
 -- participant 0 opens each window
 abbrev pub OpensEach : Plan → List StampHistory → Type 0
 OpensEach plan [] = ⊥
-OpensEach plan (history ∷ histories) = AllByRecursion (IsOpening plan) history.spans
+OpensEach plan (history ∷ histories) = AllByRecursion (IsOpening plan) history.windows
 
 -- what giving up all of a bucket's tokens tells of its journal and turns, where there are so many participants: every line belongs to a turn, turns and ids are the participants', and the journal is lawful at the turns' greatest moment where all were answered Ok
 pub record IsWholeBucket (params : Params) (participants : ℕ) (journal : List Line) (turns : List Turn) : Type 0 where
@@ -90,9 +92,9 @@ pub record IsWholeBucket (params : Params) (participants : ℕ) (journal : List 
   pub lawful : AllOk turns → IsLawful params journal (greatest_of turns)
 
 -- what the tokens of a bucket tell together, with its marks
-pub record IsBucketEvidence (plan : Plan) (told : List (Option ℕ × ℕ)) (kept : BucketEvidence) : Type 0 where
-  pub participants : length kept.histories ≡ length plan.senders + 1
-  pub histories : AreStampHistories plan kept.journal kept.turns 0 kept.histories
-  pub opens : OpensEach plan kept.histories
-  pub marks : AllByRecursion (λ (history : StampHistory). marks_in plan history ≡ told) kept.histories
-  pub whole : IsWholeBucket plan.params (length plan.senders + 1) kept.journal kept.turns
+pub record IsBucketEvidence (plan : Plan) (told : List (Option ℕ × ℕ)) (bucket : BucketEvidence) : Type 0 where
+  pub participants : length bucket.histories ≡ length plan.senders + 1
+  pub histories : AreStampHistories plan bucket.journal bucket.turns 0 bucket.histories
+  pub opens : OpensEach plan bucket.histories
+  pub marks : AllByRecursion (λ (history : StampHistory). marks_in plan history ≡ told) bucket.histories
+  pub whole : IsWholeBucket plan.params (length plan.senders + 1) bucket.journal bucket.turns

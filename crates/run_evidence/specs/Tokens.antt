@@ -8,7 +8,8 @@ use Rattle.nb_base.specs.declared.line.Reply.{Reply}
 use Rattle.nb_journal.specs.Keys.{is_own}
 use Rattle.nb_journal.specs.Fold.{reply_of}
 use Rattle.bucket_stamps.specs.declared.view.Turn.{Turn}
-use Rattle.bucket_stamps.specs.Own.{participant_of, turns_of, own_pairs}
+use Rattle.nb_base.specs.Ids.{participant_of}
+use Rattle.bucket_stamps.specs.Own.{turns_of, own_pairs}
 use Rattle.neigh_run.specs.Merged.{Entered}
 
 -- ---- turns
@@ -37,7 +38,7 @@ nothing_shown = record { past = []; turns = []; pairs = [] }
 abbrev pub Begins : {A : Type 0} → List A → List A → Type 0
 Begins {A = A} xs ys = (rest : List A) × (ys ≡ xs ++ rest)
 
--- turns go on, and of the participant by these alone
+-- turns go on by others, of which the participant's are these
 abbrev pub Adds : ℕ → List Turn → List Turn → List Turn → Type 0
 Adds p old new mine = (others : List Turn) × (new ≡ old ++ others) × (turns_of p others ≡ mine)
 
@@ -54,6 +55,7 @@ pub record Call : Type 0 where
   pub earlier : List Turn
   pub after : Shown
 
+-- the turn that it made
 abbrev pub turn_by : ℕ → Call → Turn
 turn_by p call = record { participant = p; at = call.entered.at; ok = true; length = call.place + 1 }
 
@@ -79,7 +81,7 @@ pub record IsCall (p : ℕ) (params : Params) (old : Shown) (call : Call) : Type
   -- where all turns so far were answered Ok, the line stands at the greatest of their moments
   pub moment : AllOk call.after.turns → call.line.at ≡ greatest_of call.after.turns
 
--- ---- a meeting
+-- ---- a barrier
 
 -- what a barrier says of a stamp that it met, with the bucket's length that it told and the turns that it made for the participant
 pub record IsMet (p : ℕ) (old new : Shown) (told : ℕ) (made : List Turn) : Type 0 where
@@ -90,7 +92,7 @@ pub record IsMet (p : ℕ) (old new : Shown) (told : ℕ) (made : List Turn) : T
   pub counted : length old.past ≤ told
   pub seen : told ≤ length new.past
 
--- the turns that a barrier before a window makes for a participant: it advances each bucket to the window's first moment as participant 0, with as many lines behind it as it tells, and does nothing for any other
+-- the turns that a barrier before a window makes for a participant: as participant 0 it advances each bucket to the window's first moment, with as many lines behind it as it tells, and for every other it makes none
 abbrev pub opening_turns : ℕ → ℕ → ℕ → List Turn
 opening_turns zero start told = record { participant = 0; at = start; ok = true; length = told } ∷ []
 opening_turns (suc p) start told = []

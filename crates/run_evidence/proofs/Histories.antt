@@ -1,4 +1,4 @@
--- A participant's way with its stamp of a bucket: its past only grows, the lengths that it was told never fall, its calls' places lie between them, and its turns are those that it made.
+-- A participant's history with its stamp of a bucket: its past only grows, the lengths that it was told never fall, its calls' places lie between them, and its turns are those that it made.
 use Rattle.std.proofs.Common.{◌≡◌, ℕ, zero, suc, ◌+◌, ◌<◌, ◌≤◌, true, List, [], ◌∷◌, ◌++◌, length, refl, ◌∙◌, ap, append_assoc, append-nil, arith}
 use Rattle.std.specs.List.{AllByRecursion}
 use Rattle.std.specs.Prelude.{map, flat_map}
