@@ -1,0 +1,10 @@
+mod CallsBefore
+mod Entering
+pub mod CallsOf
+mod OneCall
+mod EachCall
+mod Shares
+mod OneBucket
+mod Room
+mod Ready
+pub mod Whole
