@@ -1,3 +1,4 @@
 mod Faultless
 mod TakenWords
 mod AskedRows
+mod Numbers

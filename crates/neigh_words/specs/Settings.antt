@@ -1,15 +1,20 @@
--- The words of the command `neigh --script FILE [--capture FILE] [--mode inline] [--window MS] [--buckets N]`, and the settings that they ask for (this project's own). The mode `threads` and other numbers of buckets aren't built yet, so words that ask for them aren't of the command.
-use Rattle.std.specs.Prelude.{ℕ, Bool, true, ◌||◌, ◌==◌, if◌then◌else◌, List, [], ◌∷◌, Option, Some, None, bytes_eq, codes, string_bytes}
-use Rattle.std.specs.List.{list_any}
+-- The words of the command `neigh --script FILE [--capture FILE] [--mode inline] [--window MS] [--buckets N]`, or `neigh --generate NUMBER`, and what they ask for (this project's own). The mode `threads` isn't built yet, so words that ask for it aren't of the command.
+use Rattle.std.specs.Prelude.{ℕ, ◌^◌, Bool, true, ◌||◌, ◌&&◌, nat_le, nat_lt, if◌then◌else◌, List, [], ◌∷◌, length, Option, Some, None, is_none, bytes_eq, codes, string_bytes}
+use Rattle.std.specs.List.{list_all, list_any}
+use Rattle.std.specs.Char.{is_ascii_digit}
 use Rattle.std.specs.Option.{option_map}
+use Rattle.std.specs.Str.Parse.{digits_value}
 use Rattle.clap.specs.Walk.{Row, Rule, Text, first_of}
 use Rattle.clap.specs.Simple.{App, matches_of, new_rule, new_shape}
 use Rattle.clap.specs.Takes.{takes}
 use Rattle.clap.specs.declared.builder.action.ArgAction.TheVariants.{Set}
+use Rattle.nb_base.specs.Buckets.{is_bucket_count}
 use Rattle.nb_base.specs.Parts.{number_of}
 use Rattle.nb_base.specs.declared.plan.Mode.{Mode}
 use Rattle.nb_base.specs.declared.plan.Mode.TheVariants.{Inline}
 use Rattle.neigh_words.specs.declared.options.Settings.{Settings}
+use Rattle.neigh_words.specs.declared.options.Command.{Command}
+use Rattle.neigh_words.specs.declared.options.Command.TheVariants as command
 use Rattle.neigh_words.specs.Window.{is_window}
 
 infixl 10 ◌>>=◌
@@ -24,15 +29,11 @@ None >>= f = None
 abbrev pub option_named : Text → Rule
 option_named name = record (new_rule name) { long = Some name; action = Some Set }
 
--- such an option that has to be given
-abbrev pub needed_option : Text → Rule
-needed_option name = record (option_named name) { required = true }
-
 -- the command as `clap` defines commands: these options in any order, and no other word, no abbreviation, no help and no version option; the program's own name isn't among the words
 abbrev pub neigh_command : App
 neigh_command = record {
   top = record (new_shape (codes "neigh")) {
-    rules = needed_option (codes "script") ∷ option_named (codes "capture") ∷ option_named (codes "mode") ∷ option_named (codes "window") ∷ option_named (codes "buckets") ∷ [];
+    rules = option_named (codes "script") ∷ option_named (codes "capture") ∷ option_named (codes "mode") ∷ option_named (codes "window") ∷ option_named (codes "buckets") ∷ option_named (codes "generate") ∷ [];
     no_binary_name = true;
     disable_help_flag = true;
     disable_version_flag = true;
@@ -62,12 +63,17 @@ mode_of text = if bytes_eq text (codes "inline") then Some Inline else None
 abbrev pub window_of : Text → Option ℕ
 window_of text = number_of text >>= λ n. if is_window n then Some n else None
 
--- the one number of buckets that is built, as a number of 1 to 10 decimal digits
-abbrev pub is_built_count : ℕ → Bool
-is_built_count n = n == 1
-
+-- a number of buckets that a table may have, as a number of 1 to 10 decimal digits
 abbrev pub buckets_of : Text → Option ℕ
-buckets_of text = number_of text >>= λ n. if is_built_count n then Some n else None
+buckets_of text = number_of text >>= λ n. if is_bucket_count n then Some n else None
+
+-- 1 to 20 decimal digits
+abbrev pub is_long_number : Text → Bool
+is_long_number text = nat_le 1 (length text) && nat_le (length text) 20 && list_all is_ascii_digit text
+
+-- the number from which an input is generated, as such a number below 2^64
+abbrev pub generated_of : Text → Option ℕ
+generated_of text = if is_long_number text && nat_lt (digits_value 10 text) (2 ^ 64) then Some (digits_value 10 text) else None
 
 -- an option's value is read where the option is given, and is `otherwise` where it isn't
 abbrev pub read_or : {A : Type 0} → A → (Text → Option A) → Option Text → Option A
@@ -97,6 +103,32 @@ asked_in rows = do
   buckets ← read_or 1 buckets_of (first_of (codes "buckets") rows)
   Some (record { script = script; capture = first_of (codes "capture") rows; mode = mode; window = window; buckets = buckets })
 
--- the settings that words of the command ask for, and `None` exactly where the words aren't of the command
-abbrev pub asked : List Text → Option Asked
-asked words = if list_any is_dashes words then None else if is_taken words then asked_in (given words) else None
+-- ---- the command
+
+-- a replay of what is asked for, or a run of the input that is generated from a number
+pub data Wanted : Type 0 where
+  Replay : Asked → Wanted
+  Generate : ℕ → Wanted
+
+-- what a command asks for
+abbrev pub wanted_by : Command → Wanted
+wanted_by (command.Replay s) = Replay (asked_by s)
+wanted_by (command.Generate number) = Generate number
+
+-- no option of a replay is given
+abbrev pub is_alone : List Row → Bool
+is_alone rows =
+    is_none (first_of (codes "script") rows) && is_none (first_of (codes "capture") rows) && is_none (first_of (codes "mode") rows) && is_none (first_of (codes "window") rows) && is_none (first_of (codes "buckets") rows)
+
+-- a number to generate from stands alone, and without it a replay is asked for
+abbrev pub wanted_with : Option Text → List Row → Option Wanted
+wanted_with (Some text) rows = if is_alone rows then option_map Generate (generated_of text) else None
+wanted_with None rows = option_map Replay (asked_in rows)
+
+-- what the options' values ask for
+unfoldable pub wanted_in : List Row → Option Wanted
+wanted_in rows = wanted_with (first_of (codes "generate") rows) rows
+
+-- what words of the command ask for, and `None` exactly where the words aren't of the command
+abbrev pub wanted : List Text → Option Wanted
+wanted words = if list_any is_dashes words then None else if is_taken words then wanted_in (given words) else None

@@ -1,8 +1,8 @@
-//! The words of the command `neigh`, and the settings that they ask for.
+//! The words of the command `neigh`, and what they ask for.
 #![tactic(auto)]
 
 mod options;
 mod words_of_command;
 
-pub use options::{Settings, SettingsFail};
+pub use options::{Command, Settings, SettingsFail};
 pub use words_of_command::settings;

@@ -1,23 +1,27 @@
-//! The settings that the command's words ask for.
-ghost use Rattle.std.specs.Prelude.{◌≡◌, ◌≢◌, true, false, map, Some, None, Ok, Err, IfOk, IfErr, IfSome, IsTrue, codes, string_bytes};
-ghost use Rattle.std.specs.List.{list_any};
+//! What the command's words ask for.
+ghost use Rattle.std.specs.Prelude.{◌≡◌, ◌≢◌, true, false, is_none, map, Some, None, Ok, Err, IfOk, IfErr, IfSome, IsTrue, codes, string_bytes};
+ghost use Rattle.std.specs.Char.{is_ascii_digit};
+ghost use Rattle.std.specs.List.{list_all, list_any};
 ghost use Rattle.std.specs.Option.{option_map};
 ghost use Rattle.clap.specs.Matches.{found_of};
 ghost use Rattle.clap.specs.Simple.{app_of};
 ghost use Rattle.clap.specs.Values.{kind_of};
 ghost use Rattle.clap.specs.Walk.{first_of, rows_of, rule_of};
-ghost use Rattle.neigh_words.specs.Settings.{asked, asked_by, asked_in, given, is_taken, neigh_command};
+ghost use Rattle.nb_base.specs.Buckets.{is_bucket_count};
+ghost use Rattle.nb_base.specs.Buckets as buckets;
+ghost use Rattle.neigh_words.specs.Settings.{asked_by, asked_in, given, is_taken, neigh_command, wanted, wanted_by, wanted_in};
 ghost use Rattle.neigh_words.specs.Settings as of;
 ghost use Rattle.neigh_words.specs.Window.{is_window};
 
-use crate::options::{Settings, SettingsFail};
+use crate::options::{Command, Settings, SettingsFail};
 use clap::error::ErrorKind;
-use clap::{Arg, ArgAction, ArgMatches, Command, Error};
+use clap::{Arg, ArgAction, ArgMatches, Error};
 use nb_base::{Mode, read_number};
 use std::alloc::{AllocError, Global};
 
-/// The settings that the command's words ask for: `--script FILE [--capture FILE] [--mode inline] [--window MS] [--buckets N]`, each option at most once and in
-/// any order, its value as the next word or behind `=`. MS is 1 to 60,000 and N is 1, each 1 to 10 decimal digits. A value that begins with
+/// What the command's words ask for: `--script FILE [--capture FILE] [--mode inline] [--window MS] [--buckets N]`, a replay, or `--generate NUMBER` alone, a run
+/// of the input that is generated from the number. Each option stands at most once and in any order, its value as the next word or behind `=`.
+/// MS is 1 to 60,000 and N is 1, 2, 4, 8, 16, 32 or 64, each 1 to 10 decimal digits; NUMBER is 1 to 20 decimal digits, below 2^64. A value that begins with
 /// `-` stands behind `=`, and no word is `-` or `--`. The words are those behind the program's own name.
 ///
 /// Without their options there is no capture, the mode is inline, the window 50 ms and the number of buckets 1.
@@ -25,15 +29,15 @@ use std::alloc::{AllocError, Global};
 /// # Errors
 ///
 /// `Usage` only where the words aren't of the command, and there always, unless memory runs out before that is known, which is `Memory`.
-pub fn settings(alloc: Global, words: &[String]) -> Result<Settings, SettingsFail>
-    ensures found { IfOk result (λ settings. asked (map string_bytes words.now) ≡ Some (asked_by settings)) }
-    ensures usage { result ≡ Err SettingsFail.Usage → asked (map string_bytes words.now) ≡ None }
+pub fn settings(alloc: Global, words: &[String]) -> Result<Command, SettingsFail>
+    ensures found { IfOk result (λ command. wanted (map string_bytes words.now) ≡ Some (wanted_by command)) }
+    ensures usage { result ≡ Err SettingsFail.Usage → wanted (map string_bytes words.now) ≡ None }
 {
     if has_dashes(words) {
         return Err(SettingsFail::Usage);
     }
     let matches = matches(alloc, words)?;
-    settings_in(alloc, &matches)
+    command_in(alloc, &matches)
 }
 
 fn has_dashes(words: &[String]) -> bool
@@ -68,20 +72,20 @@ fn cause(error: &Error) -> SettingsFail
 }
 
 // The command as `clap` is told of it.
-fn command<'a>(alloc: Global) -> Result<Command<'a>, AllocError>
+fn command<'a>(alloc: Global) -> Result<clap::Command<'a>, AllocError>
     ensures { IfOk result (λ command. app_of command ≡ neigh_command) }
 {
-    let script = option(alloc, "script").required(true);
-    let command = Command::new(alloc, "neigh")
+    let command = clap::Command::new(alloc, "neigh")
         .no_binary_name(true)
         .disable_help_flag(true)
         .disable_version_flag(true);
     command
-        .arg(script)?
+        .arg(option(alloc, "script"))?
         .arg(option(alloc, "capture"))?
         .arg(option(alloc, "mode"))?
         .arg(option(alloc, "window"))?
-        .arg(option(alloc, "buckets"))
+        .arg(option(alloc, "buckets"))?
+        .arg(option(alloc, "generate"))
 }
 
 // An option with one value.
@@ -90,6 +94,49 @@ fn option<'a>(alloc: Global, name: &'a str) -> Arg<'a>
     ensures local { result.global ≡ false }
 {
     Arg::new(alloc, name).long(name).action(ArgAction::Set)
+}
+
+// What the options' values ask for.
+#[tactic(auto, unfolding(crate::specs::Settings::wanted_in))]
+fn command_in(alloc: Global, matches: &ArgMatches<'_>) -> Result<Command, SettingsFail>
+    ensures found { IfOk result (λ command. wanted_in (rows_of (found_of matches.now)) ≡ Some (wanted_by command)) }
+    ensures usage { result ≡ Err SettingsFail.Usage → wanted_in (rows_of (found_of matches.now)) ≡ None }
+{
+    match value_of(matches, "generate") {
+        Some(text) => generation(matches, text),
+        None => Ok(Command::Replay(settings_in(alloc, matches)?)),
+    }
+}
+
+// A number to generate from, which stands alone.
+fn generation(matches: &ArgMatches<'_>, text: &str) -> Result<Command, SettingsFail>
+    ensures found { IfOk result (λ command. of.wanted_with (Some text.now) (rows_of (found_of matches.now)) ≡ Some (wanted_by command)) }
+    ensures usage { result ≡ Err SettingsFail.Usage → of.wanted_with (Some text.now) (rows_of (found_of matches.now)) ≡ None }
+{
+    if !is_alone(matches) {
+        return Err(SettingsFail::Usage);
+    }
+    match read_generated(text) {
+        Some(number) => Ok(Command::Generate(number)),
+        None => Err(SettingsFail::Usage),
+    }
+}
+
+// Whether no option of a replay is given.
+fn is_alone(matches: &ArgMatches<'_>) -> bool
+    ensures { result ≡ of.is_alone (rows_of (found_of matches.now)) }
+{
+    is_left_out(matches, "script")
+        && is_left_out(matches, "capture")
+        && is_left_out(matches, "mode")
+        && is_left_out(matches, "window")
+        && is_left_out(matches, "buckets")
+}
+
+fn is_left_out(matches: &ArgMatches<'_>, name: &str) -> bool
+    ensures { result ≡ is_none (first_of name.now (rows_of (found_of matches.now))) }
+{
+    value_of(matches, name).is_none()
 }
 
 // The settings that the options' values ask for.
@@ -156,7 +203,7 @@ fn window_in(matches: &ArgMatches<'_>) -> Option<u32>
 
 fn buckets_in(matches: &ArgMatches<'_>) -> Option<u32>
     ensures value { result ≡ of.read_or 1 of.buckets_of (first_of (codes "buckets") (rows_of (found_of matches.now))) }
-    ensures one { IfSome result (λ n. n ≡ 1) }
+    ensures fits { IfSome result (λ n. IsTrue (is_bucket_count n)) }
 {
     match value_of(matches, "buckets") {
         Some(text) => read_buckets(text),
@@ -196,10 +243,42 @@ fn read_window(text: &str) -> Option<u32>
 
 fn read_buckets(text: &str) -> Option<u32>
     ensures value { result ≡ of.buckets_of text.now }
-    ensures one { IfSome result (λ n. n ≡ 1) }
+    ensures fits { IfSome result (λ n. IsTrue (is_bucket_count n)) }
 {
     let number = read_number(text.as_bytes())?;
-    if number == 1 { Some(1) } else { None }
+    if is_bucket_count(number) {
+        Some(number as u32)
+    } else {
+        None
+    }
+}
+
+fn is_bucket_count(number: u64) -> bool
+    ensures { result ≡ buckets.is_bucket_count number }
+{
+    matches!(number, 1 | 2 | 4 | 8 | 16 | 32 | 64)
+}
+
+fn read_generated(text: &str) -> Option<u64>
+    ensures { result ≡ of.generated_of text.now }
+{
+    if is_long_number(text.as_bytes()) {
+        text.parse().ok()
+    } else {
+        None
+    }
+}
+
+fn is_long_number(text: &[u8]) -> bool
+    ensures { result ≡ of.is_long_number text.now }
+{
+    1 <= text.len() && text.len() <= 20 && has_digits(text)
+}
+
+fn has_digits(text: &[u8]) -> bool
+    ensures { result ≡ list_all is_ascii_digit text.now }
+{
+    text.iter().all(|byte| byte.is_ascii_digit())
 }
 
 fn is_dashes(word: &str) -> bool

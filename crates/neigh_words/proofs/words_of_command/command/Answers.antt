@@ -1,9 +1,6 @@
-use Rattle.std.proofs.Common.{◌≡◌, ◌∙◌, ap, ap₂, true, false, codes}
+use Rattle.std.proofs.Common.{◌≡◌, ◌∙◌, ap, ap₂, true, codes}
 use Rattle.std.proofs.lemmas.Result.{IfOk-weaker}
 use Rattle.clap.specs.Simple.{App, app_of, app_of_fields, new_app, on_top, with_rule}
-use Rattle.clap.specs.Walk.{Rule, rule_of}
-use Rattle.clap.specs.declared.builder.arg.Arg.{Arg}
-use Rattle.neigh_words.specs.Settings.{needed_option}
 use Rattle.neigh_words.proofs.words_of_command.command.Goals as goal
 
 abbrev nameless : App → App
@@ -21,11 +18,9 @@ returns c =
     let no_help : app_of c.disable_help_flag.result ≡ helpless (nameless (new_app (codes "neigh"))) = ap app_of_fields c.disable_help_flag.ensures ∙ ap helpless named in
     let start : app_of c.disable_version_flag-command.result ≡ bare =
     ap app_of_fields c.disable_version_flag-command.ensures ∙ ap (on_top (λ s. record s { disable_version_flag = true })) no_help in
-    let script : rule_of c.required-script.result ≡ needed_option (codes "script") =
-    ap rule_of c.required-script.ensures ∙ ap (λ (r : Rule). record r { required = true }) c.option.ensures.rule in
-    let script_local : c.required-script.result.global ≡ false = ap (λ (a : Arg). a.global) c.required-script.ensures ∙ c.option.ensures.local in
-    let one : app_of c.in_ok-arg.field-0 ≡ with_rule bare (needed_option (codes "script")) = c.in_ok-arg.ensures.shape script_local ∙ ap₂ with_rule start script in
+    let one = c.in_ok-arg.ensures.shape c.option.ensures.local ∙ ap₂ with_rule start c.option.ensures.rule in
     let two = c.in_ok-arg-2.ensures.shape c.option-2.ensures.local ∙ ap₂ with_rule one c.option-2.ensures.rule in
     let three = c.in_ok-arg-3.ensures.shape c.option-3.ensures.local ∙ ap₂ with_rule two c.option-3.ensures.rule in
     let four = c.in_ok-arg-4.ensures.shape c.option-4.ensures.local ∙ ap₂ with_rule three c.option-4.ensures.rule in
-    IfOk-weaker c.arg-5.result _ _ (λ r added. added.shape c.option-5.ensures.local ∙ ap₂ with_rule four c.option-5.ensures.rule) c.arg-5.ensures
+    let five = c.in_ok-arg-5.ensures.shape c.option-5.ensures.local ∙ ap₂ with_rule four c.option-5.ensures.rule in
+    IfOk-weaker c.arg-6.result _ _ (λ r added. added.shape c.option-6.ensures.local ∙ ap₂ with_rule five c.option-6.ensures.rule) c.arg-6.ensures
