@@ -5,3 +5,4 @@ pub mod LinesBelow
 pub mod Listing
 pub mod LeftBehind
 pub mod WholeText
+pub mod Summaries

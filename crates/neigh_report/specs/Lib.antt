@@ -1,2 +1,3 @@
 pub mod Spaced
 pub mod Left
+pub mod Summary

@@ -6,6 +6,7 @@ mod below;
 mod counts;
 mod entries;
 mod frames;
+mod generated;
 mod head;
 mod host_journal;
 mod journal_lines;
@@ -18,5 +19,6 @@ mod whole;
 mod words;
 
 pub use counts::Fates;
+pub use generated::summary;
 pub use tally::fates;
 pub use whole::text;

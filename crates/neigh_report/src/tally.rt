@@ -1,16 +1,19 @@
-//! What became of a run's packets, without the run's text.
-ghost use Rattle.std.specs.Prelude.{◌≡◌, ◌<◌, ◌≤◌, ◌+◌, ◌^◌, ◌++◌, [], false, length, IfOk, OnOk};
+//! What became of a run's packets.
+ghost use Rattle.std.specs.Prelude.{◌≡◌, ◌<◌, ◌≤◌, ◌+◌, ◌^◌, ◌++◌, [], false, length, string_bytes, IfOk, OnOk};
 ghost use Rattle.std.specs.List.{flat_map, list_any, AllByRecursion};
+ghost use Rattle.text_codes.specs.Lines.{line_text};
 ghost use Rattle.nb_base.specs.Params.{InRange};
 ghost use Rattle.nb_journal.specs.Steps.{IsShort, IsStepped};
 ghost use Rattle.neigh_run.specs.Inline.{IsInlineRun};
 ghost use Rattle.neigh_run.specs.Fates.{HasOneFateEach, CountFates};
 ghost use Rattle.neigh_run.specs.Merged.{packet_count, is_sending};
+ghost use Rattle.neigh_run.specs.Entries.{entries_after};
 ghost use Rattle.neigh_run.specs.Report as report_of;
 ghost use Rattle.neigh_report.specs.Left as left;
 
 use crate::behind::Behind;
 use crate::counts::{Fates, count_all_fast, count_dropped, count_sent, count_waiting};
+use crate::head::write_fates;
 use journal_fold::Fold;
 use nb_base::{Journal, Line, Plan};
 use neigh_run::Run;
@@ -50,6 +53,7 @@ fn take_one_bucket(
     requires few { IsShort lines.now }
     requires steps { IsStepped plan.now.params lines.now }
     ensures acts { OnOk result (behind.new.acts.items ≡ behind.old.acts.items ++ report_of.journal_acts plan.now [] lines.now) }
+    ensures entries { OnOk result (left.entries plan.now.host behind.new.folds.items ≡ left.entries plan.now.host behind.old.folds.items ++ entries_after plan.now.host plan.now.params lines.now) }
     ensures waits { OnOk result (left.waits behind.new.folds.items ≡ left.waits behind.old.folds.items ++ report_of.waiting_after plan.now lines.now) }
     ensures few { AllByRecursion left.IsShortFold behind.old.folds.items → OnOk result (AllByRecursion left.IsShortFold behind.new.folds.items) }
 {
@@ -59,11 +63,12 @@ fn take_one_bucket(
 }
 
 /// Takes the journals of all buckets.
-fn take_buckets(alloc: Global, plan: &Plan, journals: &[Journal]) -> Result<Behind, AllocError>
+pub fn take_buckets(alloc: Global, plan: &Plan, journals: &[Journal]) -> Result<Behind, AllocError>
     requires params { InRange plan.now.params }
     requires few { AllByRecursion IsShort journals.now }
     requires steps { AllByRecursion (IsStepped plan.now.params) journals.now }
     ensures acts { IfOk result (λ behind. behind.acts.items ≡ flat_map (report_of.journal_acts plan.now []) journals.now) }
+    ensures entries { IfOk result (λ behind. left.entries plan.now.host behind.folds.items ≡ flat_map (entries_after plan.now.host plan.now.params) journals.now) }
     ensures waits { IfOk result (λ behind. left.waits behind.folds.items ≡ flat_map (report_of.waiting_after plan.now) journals.now) }
     ensures few { IfOk result (λ behind. AllByRecursion left.IsShortFold behind.folds.items) }
 {
@@ -75,6 +80,20 @@ fn take_buckets(alloc: Global, plan: &Plan, journals: &[Journal]) -> Result<Behi
         take_one_bucket(alloc, plan, journals[number].as_slice(), &mut behind)?;
     }
     Ok(behind)
+}
+
+/// Writes how many of the run's packets went out, went out fast, were dropped, and wait.
+pub fn write_run_fates(report: &mut String, run: &Run, behind: &Behind) -> Result<(), AllocError>
+    requires acts { behind.now.acts.items ≡ report_of.all_acts run.now }
+    requires waits { left.waits behind.now.folds.items ≡ flat_map (report_of.waiting_after run.now.plan) run.now.journals }
+    requires short { AllByRecursion left.IsShortFold behind.now.folds.items }
+    ensures { OnOk result (string_bytes report.new ≡ string_bytes report.old ++ line_text (report_of.fates_words run.now)) }
+{
+    let sent = count_sent(&behind.acts) as u128;
+    let fast = count_all_fast(run.logs.as_slice());
+    let dropped = count_dropped(&behind.acts) as u128;
+    let waiting = count_waiting(&behind.folds);
+    write_fates(report, sent, fast, dropped, waiting)
 }
 
 /// What became of the packets of a run, which are fewer than 2^32. Each packet of an inline run has exactly one fate: it went out at one line, or was dropped

@@ -9,11 +9,12 @@ ghost use Rattle.neigh_report.specs.Left as left;
 
 use crate::behind::{Behind, write_buckets};
 use crate::below::write_entries;
-use crate::counts::{count_all_fast, count_dropped, count_present, count_sent, count_waiting};
-use crate::head::{write_count, write_end, write_fates, write_head, write_host, write_marks};
+use crate::counts::count_present;
+use crate::head::{write_count, write_end, write_head, write_host, write_marks};
 use crate::host_journal::write_host_journal;
 use crate::logs::write_logs;
 use crate::proxies::write_proxies;
+use crate::tally::write_run_fates;
 use journal_fold::Fold;
 use nb_base::{Bytes, Host, Items};
 use neigh_run::Run;
@@ -69,11 +70,7 @@ fn write_bottom(
     requires short { AllByRecursion left.IsShortFold behind.now.folds.items }
     ensures { OnOk result (string_bytes report.new ≡ string_bytes report.old ++ text_of (left.bottom run.now)) }
 {
-    let sent = count_sent(&behind.acts) as u128;
-    let fast = count_all_fast(run.logs.as_slice());
-    let dropped = count_dropped(&behind.acts) as u128;
-    let waiting = count_waiting(&behind.folds);
-    write_fates(report, sent, fast, dropped, waiting)?;
+    write_run_fates(report, run, behind)?;
     write_table(report, &run.plan.host, &behind.folds)?;
     write_proxies(alloc, report, &run.plan)?;
     write_end(report)
