@@ -1,5 +1,5 @@
 -- The plan of a script and a capture within their limits has operations that participant 0 may have, and no item behind the greatest moment.
-use Rattle.std.proofs.Common.{◌≡◌, ℕ, suc, ◌+◌, ◌≤◌, Bool, true, false, if◌then◌else◌, List, [], ◌∷◌, ◌++◌, length, map, Option, Some, None, refl, arith}
+use Rattle.std.proofs.Common.{◌≡◌, ℕ, suc, ◌+◌, ◌≤◌, Bool, true, false, if◌then◌else◌, List, [], ◌∷◌, ◌++◌, length, map, Option, Some, None, refl, sym, subst, arith}
 use Rattle.std.specs.Prelude.{nat_le, flat_map, IfSome}
 use Rattle.std.specs.Option.{option_map, option_to_list}
 use Rattle.std.specs.List.{All, list_all, AllByRecursion}
@@ -8,6 +8,7 @@ use Rattle.nb_base.specs.declared.host.Host.{Host}
 use Rattle.nb_base.specs.declared.plan.Plan.{Plan}
 use Rattle.nb_base.specs.declared.plan.ControlItem.{ControlItem}
 use Rattle.nb_base.specs.declared.plan.ControlItem.TheVariants as control
+use Rattle.nb_base.specs.Buckets.{is_bucket_count}
 use Rattle.nb_base.specs.Params.{InRange}
 use Rattle.nud_machine.specs.Asked.{greatest}
 use Rattle.pcap_records.specs.declared.capture.Rec.{Rec}
@@ -121,12 +122,12 @@ pub files_buckets : (bytes : List ℕ) (records : List Rec) (script : Script) (w
 unfolding plan_of
 files_buckets bytes records script window buckets = rw (plan_of_files_is bytes records script window buckets) refl
 
--- so its operations go into one bucket
-pub files_enterable : (bytes : List ℕ) (records : List Rec) (script : Script) (window : ℕ) → limits.IsWithinLimits script → length script.items ≤ 131_072 → AreBounded (length bytes) records → IsEnterable (plan_of_files bytes records script window 1)
-files_enterable bytes records script window h few bounded = record {
-  params = files_params bytes records script window 1 h;
-  one_bucket = files_buckets bytes records script window 1;
-  within = files_within bytes records script window 1 bounded (script_within script h few);
-  moments = files_upto bytes records script window 1 h bounded;
-  operations = files_given bytes records script window 1 h;
+-- so its operations go into the buckets of a table
+pub files_enterable : (bytes : List ℕ) (records : List Rec) (script : Script) (window buckets : ℕ) → is_bucket_count buckets ≡ true → limits.IsWithinLimits script → length script.items ≤ 131_072 → AreBounded (length bytes) records → IsEnterable (plan_of_files bytes records script window buckets)
+files_enterable bytes records script window buckets allowed h few bounded = record {
+  params = files_params bytes records script window buckets h;
+  buckets = subst (λ (n : ℕ). is_bucket_count n ≡ true) (sym (files_buckets bytes records script window buckets)) allowed;
+  within = files_within bytes records script window buckets bounded (script_within script h few);
+  moments = files_upto bytes records script window buckets h bounded;
+  operations = files_given bytes records script window buckets h;
 }

@@ -8,3 +8,4 @@ mod Bounds
 pub mod ScriptLimits
 pub mod ScriptBounds
 pub mod FileBounds
+pub mod FileOps

@@ -1,5 +1,5 @@
 -- The plan of a script within its limits is one that can be replayed, and its line bound is below 2^22.
-use Rattle.std.proofs.Common.{◌≡◌, ℕ, zero, suc, ◌+◌, ◌<◌, ◌≤◌, Bool, true, false, if◌then◌else◌, List, [], ◌∷◌, ◌++◌, length, map, refl, ap, arith}
+use Rattle.std.proofs.Common.{◌≡◌, ℕ, zero, suc, ◌+◌, ◌<◌, ◌≤◌, Bool, true, false, if◌then◌else◌, List, [], ◌∷◌, ◌++◌, length, map, refl, sym, ap, subst, arith}
 use Rattle.std.specs.Prelude.{◌==◌, flat_map}
 use Rattle.std.specs.List.{list_all, AllByRecursion}
 use Rattle.std.proofs.lemmas.Bool.{eqb-true}
@@ -14,6 +14,7 @@ use Rattle.nb_base.specs.declared.host.Host.{Host}
 use Rattle.nb_base.specs.declared.params.Params.{Params}
 use Rattle.nb_base.specs.declared.plan.Plan.{Plan}
 use Rattle.nb_base.specs.declared.plan.ControlItem.TheVariants as control
+use Rattle.nb_base.specs.Buckets.{is_bucket_count}
 use Rattle.nb_base.specs.Params.{InRange}
 use Rattle.nud_machine.specs.Asked.{greatest, is_settable}
 use Rattle.nb_journal.specs.Accounts.{line_bound}
@@ -29,7 +30,7 @@ use Rattle.neigh_run.specs.Plan.{control_at, send_at, control_items, sends_of, s
 use Rattle.neigh_plan.specs.Inline.{most_lines, greatest_of, last_item_at, is_given_op, has_given_ops, plan_bound, IsEnterable}
 use Rattle.neigh_plan.proofs.Orders.{length_all}
 use Rattle.neigh_plan.proofs.Planned.{within_limits}
-use Rattle.neigh_plan.proofs.ScriptLimits.{script_within, one_bucket}
+use Rattle.neigh_plan.proofs.ScriptLimits.{script_within, script_buckets}
 use Rattle.neigh_plan.proofs.Participants.{control_long, sender_long}
 
 -- ---- the operations
@@ -104,24 +105,24 @@ script_upto script window buckets h =
     let early = early_items script.host script.senders script.items h.items in
     both_upto 2_592_000_000 (map control_at (control_items script.items)) (flat_map (map send_at) (senders_from 1 script.senders script.items)) (control_upto script.items early) (senders_upto 1 script.senders script.items early)
 
--- so its operations go into one bucket
-pub script_enterable : (script : Script) (window : ℕ) → limits.IsWithinLimits script → length script.items ≤ 131_072 → IsEnterable (plan_of script window 1)
-script_enterable script window h few = record {
-  params = script_params script window 1 h;
-  one_bucket = one_bucket script window;
-  within = within_limits script window 1 (script_within script h few);
-  moments = script_upto script window 1 h;
-  operations = script_given script window 1 h;
+-- so its operations go into the buckets of a table
+pub script_enterable : (script : Script) (window buckets : ℕ) → is_bucket_count buckets ≡ true → limits.IsWithinLimits script → length script.items ≤ 131_072 → IsEnterable (plan_of script window buckets)
+script_enterable script window buckets allowed h few = record {
+  params = script_params script window buckets h;
+  buckets = subst (λ (n : ℕ). is_bucket_count n ≡ true) (sym (script_buckets script window buckets)) allowed;
+  within = within_limits script window buckets (script_within script h few);
+  moments = script_upto script window buckets h;
+  operations = script_given script window buckets h;
 }
 
 -- ---- how many operations there are
 
 -- how many packets the n senders from k on have
-abbrev total : ℕ → ℕ → List ScriptItem → ℕ
+abbrev pub total : ℕ → ℕ → List ScriptItem → ℕ
 total k zero items = 0
 total k (suc n) items = length (sends_of k items) + total (k + 1) n items
 
-senders_total : (p k n : ℕ) (items : List ScriptItem) → length (senders_ops p (senders_from k n items)) ≡ total k n items
+pub senders_total : (p k n : ℕ) (items : List ScriptItem) → length (senders_ops p (senders_from k n items)) ≡ total k n items
 senders_total p k zero items = refl
 senders_total p k (suc n) items =
     let own = sender_long p 1 (sends_of k items) in
@@ -166,7 +167,7 @@ total_send k (suc n) at sender key payload items = by_test (sender == k) refl (t
       omega (arith, none)
   by_test false e rest = omega (arith, rest)
 
-few_ops : (k n : ℕ) (items : List ScriptItem) → length (control_items items) + total k n items ≤ length items
+pub few_ops : (k n : ℕ) (items : List ScriptItem) → length (control_items items) + total k n items ≤ length items
 few_ops k n [] = let none = total_nil k n in omega (arith, none)
 few_ops k n (item.Neigh at o ∷ items) = let same = total_neigh k n at o items in let rest = few_ops k n items in omega (arith, same, rest)
 few_ops k n (item.Proxy at key add ∷ items) = let same = total_proxy k n at key add items in let rest = few_ops k n items in omega (arith, same, rest)
@@ -197,12 +198,8 @@ small_bound p operations moment r few le =
     omega (arith, product, sweeps)
 
 -- a script's plan has a line bound below 2^22
-pub script_bound : (script : Script) (window : ℕ) → limits.IsWithinLimits script → length script.items ≤ 131_072 → plan_bound (plan_of script window 1) < most_lines
+pub script_bound : (script : Script) (window buckets : ℕ) → limits.IsWithinLimits script → length script.items ≤ 131_072 → plan_bound (plan_of script window buckets) < most_lines
 unfolding plan_bound
-script_bound script window h few =
-    let ops = script_ops script window 1 in
-    small_bound (plan_of script window 1).params (length (merged (plan_of script window 1))) (last_item_at (plan_of script window 1)) (script_params script window 1 h) (omega (arith, ops, few)) (script_upto script window 1 h)
-
--- so it is never too large
-pub never_too_large : (script : Script) (window : ℕ) → limits.IsWithinLimits script → length script.items ≤ 131_072 → most_lines ≤ plan_bound (plan_of script window 1) → ⊥
-never_too_large script window h few le = let lt = script_bound script window h few in omega (arith, le, lt)
+script_bound script window buckets h few =
+    let ops = script_ops script window buckets in
+    small_bound (plan_of script window buckets).params (length (merged (plan_of script window buckets))) (last_item_at (plan_of script window buckets)) (script_params script window buckets h) (omega (arith, ops, few)) (script_upto script window buckets h)

@@ -28,6 +28,6 @@ script_within script h few = record {
   few = h.senders.1;
 }
 
-pub one_bucket : (script : Script) (window : ℕ) → (plan_of script window 1).buckets ≡ 1
+pub script_buckets : (script : Script) (window buckets : ℕ) → (plan_of script window buckets).buckets ≡ buckets
 unfolding plan_of
-one_bucket script window = refl
+script_buckets script window buckets = refl

@@ -1,4 +1,4 @@
-//! How many lines the journal of a plan can get.
+//! How many lines each journal of a plan can get.
 ghost use Rattle.std.specs.Prelude.{◌≡◌, ℕ, ◌<◌, ◌≤◌, ◌^◌, map, flat_map, length};
 ghost use Rattle.std.specs.Option.{option_to_list};
 ghost use Rattle.nb_base.specs.Params.{InRange};
@@ -98,7 +98,7 @@ fn bound_of(params: &Params, operations: u64, moment: u64) -> u64
     operations * lines_each + sweeps + 1
 }
 
-/// The plan's line bound, below which its journal stays: so many lines for each of its operations as it has probes, and ten more; a sweep
+/// The plan's line bound, below which each of its journals stays: so many lines for each of its operations as it has probes, and ten more; a sweep
 /// for each interval up to its last item; and one. Each participant's items are within the limits of a plan, and no later than the greatest moment.
 #[tactic(auto, using(crate::proofs::Bounds::bound_counted))]
 pub fn line_bound(plan: &Plan) -> u64
