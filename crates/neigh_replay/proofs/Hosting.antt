@@ -1,7 +1,6 @@
 -- The walk over participant 0's items: one item more, and what it comes to.
-use Rattle.std.proofs.Common.{◌≡◌, ⊎_elim, ℕ, zero, suc, ◌+◌, ◌<◌, ◌≤◌, max, Bool, true, false, List, [], ◌∷◌, ◌++◌, length, map, take, drop, get_or, Option, Some, None, refl, sym, ◌∙◌, ap, subst, arith, append_assoc, append-nil}
-use Rattle.std.specs.Prelude.{IsTrue, nat_le, nat_lt, ◌&&◌, if◌then◌else◌, ◌↔◌, Result, Ok, Err, is_ok, IsErr, OnOk, OnErr}
-use Rattle.std.specs.List.{list_all}
+use Rattle.std.proofs.Common.{◌≡◌, ⊎_elim, ℕ, zero, suc, ◌+◌, ◌<◌, ◌≤◌, Bool, true, false, List, [], ◌∷◌, ◌++◌, length, map, take, drop, get_or, Option, Some, refl, sym, ◌∙◌, ap, subst, arith, append_assoc, append-nil}
+use Rattle.std.specs.Prelude.{IsTrue, nat_le, nat_lt, if◌then◌else◌, ◌↔◌, Result, Ok, Err, is_ok, IsErr, OnOk, OnErr}
 use Rattle.std.proofs.lemmas.Bool.{and_parts, cases_lt, lt-leb, lt-ltb, le-ltb, ltb-true}
 use Rattle.std.proofs.lemmas.List.{length-append}
 use Rattle.nb_journal.proofs.Tests.{and_both, le_from, le_to}
@@ -20,7 +19,7 @@ use Rattle.nb_queues.specs.Proxies.{Proxies, are_due_by, none_due}
 use Rattle.neigh_run.specs.Control.{HostState, host_start, control_at, item_turn, turn, due_by, waiting_behind, answer_lines, is_queued, with_request, first_of, frame_turn, heard}
 use Rattle.neigh_run.specs.Plan.{RisesFrom}
 use Rattle.neigh_plan.specs.Inline.{greatest_of}
-use Rattle.neigh_replay.specs.declared.answers.Answer.{Answer}
+use Rattle.plain_table.specs.declared.answer.Answer.{Answer}
 use Rattle.neigh_replay.specs.Hosting.{Point, places_by, rest_by, at_point, state_in, table_in, start_table, after_due, after_turn, after_own, after, walked, lines_by, IsReady}
 
 -- ---- requests that are due
@@ -71,11 +70,11 @@ due_with m (x ∷ xs) job le h =
 -- ---- items
 
 -- an item's turn is what is due by its moment, and then its own
-pub after_is : (plan : Plan) (n : ℕ) (item : ControlItem) (w : Point) → after plan n item w ≡ after_turn (turn plan (state_in w.table) n item) w
+pub after_is : (plan : Plan) (n : ℕ) (item : ControlItem) (w : Point) → after plan n item w ≡ after_turn plan (turn plan (state_in w.table) n item) w
 after_is plan n item w =
     let t = item_turn plan (state_in (after_due plan (control_at item) w).table) n item in
-    ap (λ (ls : List HostLine). (let made : Point = record { table = table_in w.table t.behind; answers = rest_by t.operation w.answers; lines = ls } in made))
-    (append_assoc w.lines (answer_lines plan (due_by (control_at item) w.table.jobs)) (t.lines (places_by t.operation w.answers)))
+    ap (λ (ls : List HostLine). (let made : Point = record { table = table_in w.table t.behind; answers = rest_by plan.buckets t.operation w.answers; lines = ls } in made))
+    (append_assoc w.lines (answer_lines plan (due_by (control_at item) w.table.jobs)) (t.lines (places_by plan.buckets t.operation w.answers)))
 
 -- what the walk leaves of the host's lines
 pub walked_lines : (plan : Plan) (n : ℕ) (items : List ControlItem) (w : Point) → (walked plan n items w).lines ≡ w.lines ++ lines_by plan (state_in w.table) n items w.answers
@@ -83,7 +82,7 @@ walked_lines plan n [] w = sym (append-nil w.lines)
 walked_lines plan n (item ∷ items) w =
     let here = turn plan (state_in w.table) n item in
     ap (λ (x : Point). (walked plan (n + 1) items x).lines) (after_is plan n item w)
-    ∙ walked_lines plan (n + 1) items (after_turn here w)
+    ∙ walked_lines plan (n + 1) items (after_turn plan here w)
     ∙ append_assoc w.lines (here.lines _) (lines_by plan here.behind (n + 1) items _)
 
 -- one item more
@@ -235,18 +234,18 @@ queue_is plan at table new request (Err e) ready full ok err = queue_full plan a
 -- ---- a frame that was heard
 
 pub frame_taken : (plan : Plan) (n at : ℕ) (bytes : List ℕ) (old : Point) (h : Heard) (table : Proxies) (answers : List Answer) (lines : List HostLine) (queued : Option Bool) (op : Option Placed)
-    → h ≡ heard plan (state_in old.table) bytes → queued ≡ option_map (λ asked. is_queued plan (state_in old.table)) h.request → op ≡ first_of (places_by h.op old.answers)
-    → table ≡ table_in old.table (with_request plan (state_in old.table) at h.request) → answers ≡ rest_by h.op old.answers → lines ≡ old.lines ++ host_line.Frame n at h.class queued h.reply op ∷ []
+    → h ≡ heard plan (state_in old.table) bytes → queued ≡ option_map (λ asked. is_queued plan (state_in old.table)) h.request → op ≡ first_of (places_by plan.buckets h.op old.answers)
+    → table ≡ table_in old.table (with_request plan (state_in old.table) at h.request) → answers ≡ rest_by plan.buckets h.op old.answers → lines ≡ old.lines ++ host_line.Frame n at h.class queued h.reply op ∷ []
     → at_point table answers lines ≡ after_own plan n (control.Frame at bytes) old
 frame_taken plan n at bytes old h table answers lines queued op eh eq eo et ea el =
     ap (λ (t : Proxies). at_point t answers lines) et
     ∙ ap (λ (rest : List Answer). at_point (table_in old.table (with_request plan s at h.request)) rest lines) ea
-    ∙ ap (λ (ls : List HostLine). at_point (table_in old.table (with_request plan s at h.request)) (rest_by h.op old.answers) ls) (
+    ∙ ap (λ (ls : List HostLine). at_point (table_in old.table (with_request plan s at h.request)) (rest_by plan.buckets h.op old.answers) ls) (
     el
     ∙ ap (λ (q : Option Bool). old.lines ++ host_line.Frame n at h.class q h.reply op ∷ []) eq
     ∙ ap (λ (o : Option Placed). old.lines ++ host_line.Frame n at h.class (option_map (λ asked. is_queued plan s) h.request) h.reply o ∷ []) eo
     )
-    ∙ ap (λ (x : Heard). after_turn (frame_turn plan s n at x) old) eh where
+    ∙ ap (λ (x : Heard). after_turn plan (frame_turn plan s n at x) old) eh where
       s : HostState
       s = state_in old.table
 

@@ -1,12 +1,15 @@
 pub mod Verdicts
 mod Replays
+mod GeneratedPlans
+mod GeneratedRuns
+mod Commands
 mod Given
 mod Hosting
-mod Entering
 mod Tasks
 mod Placed
+mod CallAnswers
 mod Logs
+mod Journals
 mod InlineRuns
 pub mod Steps
-mod Unentered
 pub mod ScriptRuns

@@ -1,7 +1,7 @@
 -- One sender more in the logs.
 use Rattle.std.proofs.Common.{◌≡◌, ℕ, zero, suc, ◌+◌, List, [], ◌∷◌, ◌++◌, refl, sym, ◌∙◌, ap, arith}
 use Rattle.nb_base.specs.declared.outcome.Outcome.{Outcome}
-use Rattle.neigh_replay.specs.declared.answers.Answer.{Answer}
+use Rattle.plain_table.specs.declared.answer.Answer.{Answer}
 use Rattle.neigh_replay.specs.Answered.{log_by, logs_by}
 
 logs_snoc : (p n : ℕ) (answers : List Answer) → logs_by p (suc n) answers ≡ logs_by p n answers ++ log_by (p + n) answers ∷ []

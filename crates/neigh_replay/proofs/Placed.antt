@@ -1,4 +1,4 @@
--- Where an operation stands in the journal that it was entered into, and what it is answered.
+-- Where an operation stands in a journal that it was entered into, and what it is answered there.
 use Rattle.std.proofs.Common.{◌≡◌, ℕ, suc, ◌≤◌, Bool, true, false, if◌then◌else◌, List, [], ◌∷◌, ◌++◌, length, map, Option, Some, None, is_some, unwrap_or, refl, sym, ◌∙◌, ap, subst, arith, append_assoc, append-nil}
 use Rattle.std.specs.Prelude.{◌&&◌, ◌==◌, filter}
 use Rattle.std.specs.Option.{option_map_or}
@@ -17,7 +17,7 @@ use Rattle.nb_journal.specs.Fold.{id_of, reply_of}
 use Rattle.nb_journal.specs.Accounts.{own_lines}
 use Rattle.nb_journal.specs.Lawful.{each_line}
 use Rattle.neigh_run.specs.Merged.{Entered}
-use Rattle.neigh_run.specs.Inline.{entered_line, find_place, placed_at}
+use Rattle.neigh_run.specs.Inline.{entered_line, find_place, journal_at, placed_at}
 use Rattle.neigh_plan.proofs.Orders.{count, count_append}
 use Rattle.neigh_run.proofs.Numbers.{has_id}
 
@@ -101,13 +101,10 @@ pub record IsNamedOnce (journal : List Line) : Type 0 where
   pub stamped : each_line IsStamped [] journal
   pub once : (id : OpId) → count (has_id id) (operations journal) ≤ 1
 
-abbrev pub placed : Plan → List Line → OpId → Placed
-placed plan journal id = placed_at plan (journal ∷ []) id 0
-
-pub placed_is : (plan : Plan) (journal past rest : List Line) (x : Line) → is_own x.op ≡ true → IsNamedOnce journal → journal ≡ past ++ x ∷ rest
-    → placed plan journal (id_of x) ≡ record { bucket = 0; place = length past; reply = unwrap_or (reply_of plan.params past x) reply.Ignored }
-placed_is plan journal past rest x own named e =
-    ap (λ (o : Option (ℕ × Option Reply)). (let made : Placed = record { bucket = 0; place = (unwrap_or o (0, None)).0; reply = unwrap_or (unwrap_or o (0, None)).1 reply.Ignored } in made)) (
+pub placed_is : (plan : Plan) (journals : List (List Line)) (b : ℕ) (past rest : List Line) (x : Line) → is_own x.op ≡ true → IsNamedOnce (journal_at journals b) → journal_at journals b ≡ past ++ x ∷ rest
+    → placed_at plan journals (id_of x) b ≡ record { bucket = b; place = length past; reply = unwrap_or (reply_of plan.params past x) reply.Ignored }
+placed_is plan journals b past rest x own named e =
+    ap (λ (o : Option (ℕ × Option Reply)). (let made : Placed = record { bucket = b; place = (unwrap_or o (0, None)).0; reply = unwrap_or (unwrap_or o (0, None)).1 reply.Ignored } in made)) (
     ap (λ (xs : List Line). find_place plan.params [] xs (id_of x)) e
     ∙ found_here plan.params past rest x own (subst (each_line IsStamped []) e named.stamped) (subst (λ (xs : List Line). count (has_id (id_of x)) (operations xs) ≤ 1) e (named.once (id_of x)))
     )

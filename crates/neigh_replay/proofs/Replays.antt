@@ -1,20 +1,17 @@
 -- From what the parts of the code give to the whole of a replay.
-use Rattle.std.proofs.Common.{◌≡◌, ◌≢◌, ℕ, true, List, [], ◌∷◌, Option, Some, None, refl, sym, ap, subst, ◌∙◌, inl, inr}
+use Rattle.std.proofs.Common.{◌≡◌, ◌≢◌, ℕ, true, List, [], ◌∷◌, Option, Some, None, refl, sym, subst, ◌∙◌, inl, inr}
 use Rattle.std.specs.Prelude.{◌==◌, slice_get, unwrap_or}
-use Rattle.std.specs.Option.{option_to_list}
 use Rattle.std.proofs.lemmas.Bool.Decides.{eqb_tells}
-use Rattle.nb_base.specs.declared.plan.Mode.{Mode}
 use Rattle.nb_base.specs.declared.plan.Plan.{Plan}
-use Rattle.neigh_words.specs.Settings.{Asked, asked, asked_by}
-use Rattle.neigh_words.specs.declared.options.Settings.{Settings}
+use Rattle.neigh_words.specs.Settings.{Asked}
 use Rattle.neigh_replay.specs.declared.failure.File.{File}
 use Rattle.neigh_replay.specs.declared.failure.File.TheVariants.{Script, Capture}
 use Rattle.neigh_replay.specs.declared.failure.Failure.{Failure}
 use Rattle.neigh_replay.specs.declared.failure.Failure.TheVariants.{Memory, ReadFault, WriteFault, TooLong, CaptureRefused, ScriptRefused, TooLarge}
 use Rattle.neigh_replay.specs.Verdict.{Verdict, Report, AreTold, HavePlan, Gives, names_of, status_of, instead_of, line_of}
 use Rattle.neigh_replay.specs.Verdict as verdict
-use Rattle.neigh_replay.specs.Status.{IsOneOf, memory_line, read_line, usage_line}
-use Rattle.neigh_replay.specs.Replay.{FilesCall, SinkCall, SinkSays, IsUntouched, NameFailed, GivesTold, Shows, IsReplay, IsCommand, NothingFailed, ReplaysAreComplete, ScriptsAreComplete, inline_by}
+use Rattle.neigh_replay.specs.Status.{IsOneOf, memory_line, read_line}
+use Rattle.neigh_replay.specs.Replay.{FilesCall, SinkCall, SinkSays, IsUntouched, NameFailed, GivesTold, Shows, IsReplay, NothingFailed, ReplaysAreComplete, ScriptsAreComplete}
 use Rattle.neigh_replay.specs.Failures.{name_in, OfFile, WritesReport, Fails, line_for, status_for}
 use Rattle.neigh_replay.proofs.Verdicts.{one_status, by_plan, plan_status, of_plan_report, small_status}
 
@@ -192,46 +189,8 @@ replays_complete a files out err status plan replay told have bound quiet = comp
 pub scripts_complete : ScriptsAreComplete
 scripts_complete a files out err status plan replay alone told have quiet = complete a files out err status plan replay told have (λ e. small_status plan status e (replay.never_too_large alone)) quiet
 
--- ---- the command
-
-pub command_without_memory : (words : List (List ℕ)) (files : FilesCall) (out err : SinkCall) → IsUntouched out → SinkSays err memory_line → IsCommand words files out err 1
-command_without_memory words files out err untouched said = record {
-  usage = λ e. absurd cc;
-  usage_always = λ none. refl;
-  usage_said = λ e. absurd cc;
-  usage_untouched = λ none. untouched;
-  usage_memory = λ none e. said;
-  replays = λ a e. memory_replay a files out err untouched said;
-}
-
-pub command_refused : (words : List (List ℕ)) (files : FilesCall) (out err : SinkCall) → asked words ≡ None → IsUntouched out → SinkSays err usage_line → IsCommand words files out err 2
-command_refused words files out err none untouched said = record {
-  usage = λ e. none;
-  usage_always = λ none. refl;
-  usage_said = λ e. said;
-  usage_untouched = λ none. untouched;
-  usage_memory = λ none e. absurd cc;
-  replays = λ a e. absurd (let both : ◌≡◌ {A = Option Asked} None (Some a) = sym none ∙ e in cc);
-}
-
 -- a replay never has the status of other words
-replay_not_usage : (a : Asked) (files : FilesCall) (out err : SinkCall) (status : ℕ) → IsReplay a files out err status → status ≡ 2 → ⊥
+pub replay_not_usage : (a : Asked) (files : FilesCall) (out err : SinkCall) (status : ℕ) → IsReplay a files out err status → status ≡ 2 → ⊥
 replay_not_usage a files out err status replay two =
     let d = replay.decided (λ e. let both : 2 ≡ 1 = sym two ∙ e in cc) (λ e. let both : 2 ≡ 3 = sym two ∙ e in cc) (λ e. let both : 2 ≡ 6 = sym two ∙ e in cc) in
     not_usage d.verdict (sym d.answered ∙ two)
-
-pub command_replays : (words : List (List ℕ)) (a : Asked) (files : FilesCall) (out err : SinkCall) (status : ℕ) → asked words ≡ Some a → IsReplay a files out err status → IsCommand words files out err status
-command_replays words a files out err status e replay = record {
-  usage = λ two. absurd (replay_not_usage a files out err status replay two);
-  usage_always = λ none. absurd (let both : ◌≡◌ {A = Option Asked} None (Some a) = sym none ∙ e in cc);
-  usage_said = λ two. absurd (replay_not_usage a files out err status replay two);
-  usage_untouched = λ none. absurd (let both : ◌≡◌ {A = Option Asked} None (Some a) = sym none ∙ e in cc);
-  usage_memory = λ none one. absurd (let both : ◌≡◌ {A = Option Asked} None (Some a) = sym none ∙ e in cc);
-  replays = λ b eb. let same : a ≡ b = (let both : ◌≡◌ {A = Option Asked} (Some a) (Some b) = sym e ∙ eb in cc) in subst (λ (x : Asked). IsReplay x files out err status) same replay;
-}
-
--- the settings' own mode is `inline`
-pub settings_replay : (words : List (List ℕ)) (s : Settings) (files : FilesCall) (out err : SinkCall) (status : ℕ) → asked words ≡ Some (asked_by s) → IsReplay (inline_by s) files out err status → IsCommand words files out err status
-settings_replay words s files out err status e replay =
-    command_replays words (asked_by s) files out err status e
-    (subst (λ (m : Mode). IsReplay (record (asked_by s) { mode = m }) files out err status) (sym s.inline) replay)

@@ -6,6 +6,7 @@ use Rattle.std.proofs.lemmas.Bool.{and_parts}
 use Rattle.std.proofs.lemmas.List.{length-map}
 use Rattle.std.proofs.lemmas.List.Sums.{sum_by-cons}
 use Rattle.nb_base.specs.declared.op.Op.{Op}
+use Rattle.nb_base.specs.Buckets.{is_bucket_count}
 use Rattle.nb_base.specs.declared.plan.Plan.{Plan}
 use Rattle.nb_base.specs.declared.plan.SendItem.{SendItem}
 use Rattle.nb_base.specs.declared.plan.ControlItem.{ControlItem}
@@ -25,7 +26,7 @@ use Rattle.neigh_plan.specs.Inline.{most_lines, plan_bound, is_given_op, has_giv
 use Rattle.neigh_plan.specs.Files.{plan_of_files}
 use Rattle.pcap_records.specs.declared.capture.Rec.{Rec}
 use Rattle.pcap_records.specs.Capture.{AreBounded}
-use Rattle.neigh_plan.proofs.ScriptLimits.{one_bucket}
+use Rattle.neigh_plan.proofs.ScriptLimits.{script_buckets}
 use Rattle.neigh_plan.proofs.ScriptBounds.{script_given, script_bound}
 use Rattle.neigh_plan.proofs.FileBounds.{files_enterable}
 use Rattle.neigh_run.proofs.Numbers.{own_op}
@@ -36,51 +37,51 @@ use Rattle.neigh_replay.specs.Failures.{RefusesCapture, RefusesScript, IsFilesPl
 
 -- ---- how the parts meet
 
-small_alone : (script : Script) (window : ℕ) (capture : Option (List ℕ)) (records : List Rec) → limits.IsWithinLimits script → length script.items ≤ 131_072 → HasRecords capture records → capture ≡ None
-    → plan_bound (plan_of_files (unwrap_or capture []) records script window 1) < most_lines
-small_alone script window None records within few h e = subst (λ (rs : List Rec). plan_bound (plan_of_files [] rs script window 1) < most_lines) (sym h) (script_bound script window within few)
-small_alone script window (Some bytes) records within few h e = cc
+small_alone : (script : Script) (window buckets : ℕ) (capture : Option (List ℕ)) (records : List Rec) → limits.IsWithinLimits script → length script.items ≤ 131_072 → HasRecords capture records → capture ≡ None
+    → plan_bound (plan_of_files (unwrap_or capture []) records script window buckets) < most_lines
+small_alone script window buckets None records within few h e = subst (λ (rs : List Rec). plan_bound (plan_of_files [] rs script window buckets) < most_lines) (sym h) (script_bound script window buckets within few)
+small_alone script window buckets (Some bytes) records within few h e = cc
 
 -- the plan of what the files hold
-pub files_plan : (window : ℕ) (text : List ℕ) (capture : Option (List ℕ)) (records : List Rec) (script : Script) (plan : Plan) → HasRecords capture records → AreBounded (length (unwrap_or capture [])) records
-    → script_of text ≡ Ok script → limits.IsWithinLimits script → length script.items ≤ 131_072 → plan ≡ plan_of_files (unwrap_or capture []) records script window 1 → IsFilesPlan window text capture plan
-files_plan window text capture records script plan captured bounded read within few is = record {
+pub files_plan : (window buckets : ℕ) (text : List ℕ) (capture : Option (List ℕ)) (records : List Rec) (script : Script) (plan : Plan) → is_bucket_count buckets ≡ true → HasRecords capture records → AreBounded (length (unwrap_or capture [])) records
+    → script_of text ≡ Ok script → limits.IsWithinLimits script → length script.items ≤ 131_072 → plan ≡ plan_of_files (unwrap_or capture []) records script window buckets → IsFilesPlan window buckets text capture plan
+files_plan window buckets text capture records script plan allowed captured bounded read within few is = record {
   made = record { records = records; captured = captured; script = script; read = read; planned = is };
-  enterable = subst IsEnterable (sym is) (files_enterable (unwrap_or capture []) records script window within few bounded);
-  small = λ none. subst (λ (p : Plan). plan_bound p < most_lines) (sym is) (small_alone script window capture records within few captured none);
+  enterable = subst IsEnterable (sym is) (files_enterable (unwrap_or capture []) records script window buckets allowed within few bounded);
+  small = λ none. subst (λ (p : Plan). plan_bound p < most_lines) (sym is) (small_alone script window buckets capture records within few captured none);
 }
 
 -- what refuses the capture refuses both
-pub capture_refuses : (window : ℕ) (text : List ℕ) (capture : Option (List ℕ)) (failure : Failure) → RefusesCapture capture failure → Refuses window text capture failure
-capture_refuses window text capture Memory h = tt
-capture_refuses window text capture (ReadFault file) h = absurd h
-capture_refuses window text capture WriteFault h = absurd h
-capture_refuses window text capture (TooLong file) h = absurd h
-capture_refuses window text capture (CaptureRefused fail) h = h
-capture_refuses window text capture (ScriptRefused line why) h = absurd h
-capture_refuses window text capture TooLarge h = absurd h
+pub capture_refuses : (window buckets : ℕ) (text : List ℕ) (capture : Option (List ℕ)) (failure : Failure) → RefusesCapture capture failure → Refuses window buckets text capture failure
+capture_refuses window buckets text capture Memory h = tt
+capture_refuses window buckets text capture (ReadFault file) h = absurd h
+capture_refuses window buckets text capture WriteFault h = absurd h
+capture_refuses window buckets text capture (TooLong file) h = absurd h
+capture_refuses window buckets text capture (CaptureRefused fail) h = h
+capture_refuses window buckets text capture (ScriptRefused line why) h = absurd h
+capture_refuses window buckets text capture TooLarge h = absurd h
 
 -- and so does what refuses the script, behind a capture with records
-pub script_refuses : (window : ℕ) (text : List ℕ) (capture : Option (List ℕ)) (records : List Rec) (failure : Failure) → HasRecords capture records → RefusesScript text failure → Refuses window text capture failure
-script_refuses window text capture records Memory captured h = tt
-script_refuses window text capture records (ReadFault file) captured h = absurd h
-script_refuses window text capture records WriteFault captured h = absurd h
-script_refuses window text capture records (TooLong file) captured h = absurd h
-script_refuses window text capture records (CaptureRefused fail) captured h = absurd h
-script_refuses window text capture records (ScriptRefused line why) captured h = (records, captured, h)
-script_refuses window text capture records TooLarge captured h = absurd h
+pub script_refuses : (window buckets : ℕ) (text : List ℕ) (capture : Option (List ℕ)) (records : List Rec) (failure : Failure) → HasRecords capture records → RefusesScript text failure → Refuses window buckets text capture failure
+script_refuses window buckets text capture records Memory captured h = tt
+script_refuses window buckets text capture records (ReadFault file) captured h = absurd h
+script_refuses window buckets text capture records WriteFault captured h = absurd h
+script_refuses window buckets text capture records (TooLong file) captured h = absurd h
+script_refuses window buckets text capture records (CaptureRefused fail) captured h = absurd h
+script_refuses window buckets text capture records (ScriptRefused line why) captured h = (records, captured, h)
+script_refuses window buckets text capture records TooLarge captured h = absurd h
 
 -- what their plan comes to is what they come to
-pub plan_gives : (window : ℕ) (text : List ℕ) (capture : Option (List ℕ)) (plan : Plan) (r : Result (List ℕ) Failure) → IsFilesPlan window text capture plan
-    → MatchResult r (IsPlansReport plan) (RefusesPlan plan) → MatchResult r (IsReportOf window text capture) (Refuses window text capture)
-plan_gives window text capture plan (Ok report) is h = record { plan = plan; made = is.made; report_is = h }
-plan_gives window text capture plan (Err Memory) is h = tt
-plan_gives window text capture plan (Err (ReadFault file)) is h = absurd h
-plan_gives window text capture plan (Err WriteFault) is h = absurd h
-plan_gives window text capture plan (Err (TooLong file)) is h = absurd h
-plan_gives window text capture plan (Err (CaptureRefused fail)) is h = absurd h
-plan_gives window text capture plan (Err (ScriptRefused line why)) is h = absurd h
-plan_gives window text capture plan (Err TooLarge) is h = record { plan = plan; made = is; large = h }
+pub plan_gives : (window buckets : ℕ) (text : List ℕ) (capture : Option (List ℕ)) (plan : Plan) (r : Result (List ℕ) Failure) → IsFilesPlan window buckets text capture plan
+    → MatchResult r (IsPlansReport plan) (RefusesPlan plan) → MatchResult r (IsReportOf window buckets text capture) (Refuses window buckets text capture)
+plan_gives window buckets text capture plan (Ok report) is h = record { plan = plan; made = is.made; report_is = h }
+plan_gives window buckets text capture plan (Err Memory) is h = tt
+plan_gives window buckets text capture plan (Err (ReadFault file)) is h = absurd h
+plan_gives window buckets text capture plan (Err WriteFault) is h = absurd h
+plan_gives window buckets text capture plan (Err (TooLong file)) is h = absurd h
+plan_gives window buckets text capture plan (Err (CaptureRefused fail)) is h = absurd h
+plan_gives window buckets text capture plan (Err (ScriptRefused line why)) is h = absurd h
+plan_gives window buckets text capture plan (Err TooLarge) is h = record { plan = plan; made = is; large = h }
 
 -- ---- how many packets
 
@@ -120,12 +121,12 @@ all_few (items ∷ senders) h =
     omega (arith, here, rest, sum)
 
 -- the packets of a script's plan are fewer than 2^32, and so are those of its inline run
-pub few_packets : (script : Script) (window : ℕ) (plan : Plan) (run : Run) → plan ≡ plan_of script window 1 → limits.IsWithinLimits script → length script.items ≤ 131_072 → IsWithinLimits plan → IsInlineRun plan run
+pub few_packets : (script : Script) (window buckets : ℕ) (plan : Plan) (run : Run) → 0 < buckets → plan ≡ plan_of script window buckets → limits.IsWithinLimits script → length script.items ≤ 131_072 → IsWithinLimits plan → IsInlineRun plan run
     → sent_count run + fast_count run + dropped_count run + waiting_count run < 2 ^ 32
-few_packets script window plan run is within few plan_within inline =
-    let given = subst (λ (p : Plan). has_given_ops p ≡ true) (sym is) (script_given script window 1 within) in
-    let buckets = ap (λ (p : Plan). p.buckets) is ∙ one_bucket script window in
-    let law = inline_fates plan run (omega (arith, buckets)) (still plan given) inline in
+few_packets script window buckets plan run some is within few plan_within inline =
+    let given = subst (λ (p : Plan). has_given_ops p ≡ true) (sym is) (script_given script window buckets within) in
+    let count = ap (λ (p : Plan). p.buckets) is ∙ script_buckets script window buckets in
+    let law = inline_fates plan run (omega (arith, count, some)) (still plan given) inline in
     let all = all_few plan.senders plan_within.senders in
     let most = plan_within.few in
     omega (arith, law, all, most)

@@ -1,25 +1,24 @@
 -- The machine can step over the lines of an inline run, as a report's text asks.
-use Rattle.std.proofs.Common.{◌≡◌, ℕ, ◌≤◌, Bool, true, false, if◌then◌else◌, List, [], ◌∷◌, length, map, refl, sym, ◌∙◌, subst, arith}
+use Rattle.std.proofs.Common.{◌≡◌, ℕ, ◌+◌, ◌≤◌, Bool, true, false, if◌then◌else◌, List, [], ◌∷◌, map, refl, sym, subst, arith}
+use Rattle.std.specs.Prelude.{filter}
 use Rattle.std.specs.List.{AllByRecursion}
 use Rattle.nb_base.specs.declared.line.Line.{Line}
-use Rattle.nb_base.specs.declared.params.Params.{Params}
 use Rattle.nb_base.specs.declared.plan.Plan.{Plan}
 use Rattle.nb_base.specs.Params.{InRange}
-use Rattle.nud_machine.specs.Asked.{greatest}
 use Rattle.nb_journal.specs.Keys.{is_own, may_be_asked, may_all_be_asked}
 use Rattle.nb_journal.specs.Accounts.{own_lines}
 use Rattle.nb_journal.specs.Lawful.{last_moment}
 use Rattle.nb_journal.specs.Steps.{IsShort, IsStepped}
 use Rattle.nb_journal.proofs.Tests.{and_both}
 use Rattle.nb_journal.proofs.Stepped.{orderly_stepped}
-use Rattle.neigh_run.specs.Inline.{ends_own, entered_line, journal_at, IsInlineJournal, AreInlineJournals, IsInlineRun}
+use Rattle.neigh_run.specs.Inline.{ends_own, entered_line, IsInlineJournal, AreInlineJournals, IsInlineRun}
 use Rattle.neigh_run.specs.declared.run.Run.{Run}
-use Rattle.neigh_run.specs.Plan.{IsWithinLimits}
-use Rattle.neigh_plan.specs.Inline.{most_lines, last_item_at, has_given_ops, IsEnterable}
+use Rattle.neigh_run.specs.Merged.{Entered, goes_to, merged}
+use Rattle.neigh_plan.specs.Inline.{last_item_at, IsEnterable}
 use Rattle.neigh_plan.proofs.Orders.{Each}
+use Rattle.neigh_replay.specs.Verdict.{HasFewLines}
 use Rattle.neigh_replay.proofs.Placed.{operations}
 use Rattle.neigh_replay.proofs.Tasks.{IsUpTo, IsTaken, early_merged, taken_merged}
-use Rattle.neigh_replay.proofs.InlineRuns.{merged_for-one}
 
 -- ---- the last moment
 
@@ -49,27 +48,33 @@ pub record HasText (run : Run) : Type 0 where
   pub few : AllByRecursion IsShort run.journals
   pub steps : AllByRecursion (IsStepped run.plan.params) run.journals
 
--- what is asked of its one journal
-record HasSteps (p : Params) (journals : List (List Line)) : Type 0 where
-  few : AllByRecursion IsShort journals
-  steps : AllByRecursion (IsStepped p) journals
+abbrev is_for : Plan → ℕ → Entered → Bool
+is_for plan b x = goes_to plan.buckets b x.op
 
-journal_steps : (plan : Plan) (all : List (List Line)) (journal : List Line) → IsWithinLimits plan → plan.buckets ≡ 1 → last_item_at plan ≤ greatest → has_given_ops plan ≡ true → IsInlineJournal plan all 0 journal → IsStepped plan.params journal
-journal_steps plan others journal within one le given h =
-    let all = h.entered ∙ merged_for-one plan one in
-    let last = last_upto (last_item_at plan) journal h.ends (subst (Each (IsUpTo (last_item_at plan))) (sym all) (early_merged plan)) in
-    orderly_stepped plan.params journal h.lawful.orderly (omega (arith, last, le)) (taken_asked journal (subst (Each IsTaken) (sym all) (taken_merged plan within given)))
+each_filter : (P : Entered → Type 0) (test : Entered → Bool) (xs : List Entered) → Each P xs → Each P (filter test xs)
+each_filter P test [] h = tt
+each_filter P test (x ∷ xs) h = by_test (test x) (each_filter P test xs h.1) where
+  by_test : (t : Bool) → Each P (filter test xs) → Each P (if t then x ∷ filter test xs else filter test xs)
+  by_test true rest = (h.0, rest)
+  by_test false rest = rest
 
-one_journal : (plan : Plan) (all journals : List (List Line)) → IsWithinLimits plan → plan.buckets ≡ 1 → last_item_at plan ≤ greatest → has_given_ops plan ≡ true → length journals ≡ 1 → AreInlineJournals plan all 0 journals → length (journal_at journals 0) ≤ most_lines → HasSteps plan.params journals
-one_journal plan all [] within one le given long h few = absurd (omega (arith, long))
-one_journal plan all (journal ∷ []) within one le given long h few = record { few = (omega (arith, few), tt); steps = (journal_steps plan all journal within one le given h.0, tt) }
-one_journal plan all (journal ∷ other ∷ more) within one le given long h few = absurd (omega (arith, long))
+journal_steps : (plan : Plan) (all : List (List Line)) (b : ℕ) (journal : List Line) → IsEnterable plan → IsInlineJournal plan all b journal → IsStepped plan.params journal
+journal_steps plan others b journal e h =
+    let le = e.moments in
+    let last = last_upto (last_item_at plan) journal h.ends (subst (Each (IsUpTo (last_item_at plan))) (sym h.entered) (each_filter (IsUpTo (last_item_at plan)) (is_for plan b) (merged plan) (early_merged plan))) in
+    orderly_stepped plan.params journal h.lawful.orderly (omega (arith, last, le)) (taken_asked journal (subst (Each IsTaken) (sym h.entered) (each_filter IsTaken (is_for plan b) (merged plan) (taken_merged plan e.within e.operations))))
 
-pub run_has_text : (plan : Plan) (run : Run) → IsEnterable plan → IsInlineRun plan run → length (journal_at run.journals 0) ≤ most_lines → HasText run
-run_has_text plan run e inline few =
-    let has = one_journal plan run.journals run.journals e.within e.one_bucket e.moments e.operations (inline.buckets ∙ e.one_bucket) inline.journals few in
-    record {
-      params = subst (λ (p : Plan). InRange p.params) (sym inline.plan) e.params;
-      few = has.few;
-      steps = subst (λ (p : Plan). AllByRecursion (IsStepped p.params) run.journals) (sym inline.plan) has.steps;
-    }
+all_steps : (plan : Plan) (all : List (List Line)) (b : ℕ) (journals : List (List Line)) → IsEnterable plan → AreInlineJournals plan all b journals → AllByRecursion (IsStepped plan.params) journals
+all_steps plan all b [] e h = tt
+all_steps plan all b (journal ∷ journals) e h = (journal_steps plan all b journal e h.0, all_steps plan all (b + 1) journals e h.1)
+
+all_short : (journals : List (List Line)) → AllByRecursion HasFewLines journals → AllByRecursion IsShort journals
+all_short [] few = tt
+all_short (journal ∷ journals) few = (let here = few.0 in omega (arith, here), all_short journals few.1)
+
+pub run_has_text : (plan : Plan) (run : Run) → IsEnterable plan → IsInlineRun plan run → AllByRecursion HasFewLines run.journals → HasText run
+run_has_text plan run e inline few = record {
+  params = subst (λ (p : Plan). InRange p.params) (sym inline.plan) e.params;
+  few = all_short run.journals few;
+  steps = subst (λ (p : Plan). AllByRecursion (IsStepped p.params) run.journals) (sym inline.plan) (all_steps plan run.journals 0 run.journals e inline.journals);
+}

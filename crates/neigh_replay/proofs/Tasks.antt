@@ -1,5 +1,5 @@
--- The operations of a plan in merged order are such as a bucket takes: early enough, own, with states that may be given, and by moment.
-use Rattle.std.proofs.Common.{◌≡◌, ℕ, zero, suc, ◌+◌, ◌<◌, ◌≤◌, true, List, [], ◌∷◌, ◌++◌, length, map, take, get_or, Option, Some, None, refl, sym, ◌∙◌, ap, subst, arith}
+-- The operations of a plan in merged order are such as a table takes: early enough, own, and with states that may be given; and their line bound is the plan's.
+use Rattle.std.proofs.Common.{◌≡◌, ℕ, ◌+◌, ◌<◌, ◌≤◌, true, List, [], ◌∷◌, ◌++◌, length, map, Option, Some, None, refl, sym, ◌∙◌, ap, subst, arith}
 use Rattle.std.specs.Prelude.{◌&&◌, not, nat_le, flat_map}
 use Rattle.std.specs.List.{list_all, AllByRecursion}
 use Rattle.std.proofs.lemmas.Bool.{and_parts}
@@ -12,14 +12,13 @@ use Rattle.nb_base.specs.declared.plan.SendItem.{SendItem}
 use Rattle.nb_base.specs.declared.plan.ControlItem.{ControlItem}
 use Rattle.nud_machine.specs.Asked.{greatest}
 use Rattle.nb_journal.specs.Keys.{is_own, is_send, may_be_asked}
-use Rattle.nb_journal.specs.Lawful.{last_moment}
 use Rattle.nb_journal.specs.Accounts.{line_bound}
 use Rattle.neigh_run.specs.Control.{HostState, host_start, turn}
 use Rattle.neigh_run.specs.Merged.{Entered, control_ops, sender_ops, senders_ops, merged}
-use Rattle.neigh_run.specs.Plan.{RisesFrom, IsPacket, AreSendLists, IsWithinLimits, control_at, send_at}
+use Rattle.neigh_run.specs.Plan.{IsPacket, AreSendLists, IsWithinLimits, control_at, send_at}
 use Rattle.neigh_plan.specs.Inline.{most_lines, greatest_of, last_item_at, is_given_op, has_given_ops, plan_bound}
-use Rattle.neigh_plan.specs.Merging.{line_of, lines_of, line_at}
-use Rattle.neigh_replay.specs.Answered.{IsTask, LineIsUpTo, AreInBound}
+use Rattle.neigh_plan.specs.Merging.{line_of, lines_of}
+use Rattle.plain_table.specs.Entering.{IsTask, LineIsUpTo, AreInBound}
 use Rattle.nb_journal.proofs.Tests.{and_both, le_to}
 use Rattle.neigh_run.proofs.Numbers.{own_op}
 use Rattle.neigh_plan.proofs.Orders.{Each, each_append, each_all}
@@ -131,19 +130,3 @@ in_bound plan params lines e f lt = record {
       ∙ bound_is plan
       )) lt;
 }
-
--- ---- one after the other
-
--- a line doesn't lie before those that it follows
-pub behind_first : (lines : List Line) (m i : ℕ) (line : Line) → RisesFrom m (map line_at lines) → i < length lines → line ≡ get_or lines i line → last_moment (take i lines) ≤ line.at
-behind_first [] m i line h lt at = absurd (omega (arith, lt))
-behind_first (x ∷ xs) m zero line h lt at = omega arith
-behind_first (x ∷ []) m (suc i) line h lt at = absurd (omega (arith, lt))
-behind_first (x ∷ y ∷ ys) m (suc zero) line h lt at = subst (λ (l : Line). x.at ≤ l.at) (sym at) h.1.0
-behind_first (x ∷ y ∷ ys) m (suc (suc i)) line h lt at = behind_first (y ∷ ys) x.at (suc i) line h.1 (omega (arith, lt)) at
-
--- none is later than the moment that all of them keep
-pub upto_at : (m : ℕ) (lines : List Line) (i : ℕ) (line : Line) → AllByRecursion (LineIsUpTo m) lines → i < length lines → line ≡ get_or lines i line → line.at ≤ m
-upto_at m [] i line h lt at = absurd (omega (arith, lt))
-upto_at m (x ∷ xs) zero line h lt at = subst (LineIsUpTo m) (sym at) h.0
-upto_at m (x ∷ xs) (suc i) line h lt at = upto_at m xs i line h.1 (omega (arith, lt)) at

@@ -1,15 +1,13 @@
 -- Two verdicts that the files give have one status.
 use Rattle.std.proofs.Common.{◌≡◌, ◌≢◌, ℕ, zero, suc, ◌<◌, ◌≤◌, Bool, true, false, if◌then◌else◌, List, [], ◌∷◌, length, get_or, Option, Some, None, refl, sym, ◌∙◌, ap, subst, arith}
-use Rattle.std.specs.Prelude.{◌&&◌, ◌==◌, nat_le, is_some, unwrap_or, Result, Ok, Err}
+use Rattle.std.specs.Prelude.{nat_le, unwrap_or, Result, Ok, Err}
 use Rattle.std.specs.List.{AllByRecursion}
-use Rattle.std.proofs.lemmas.Bool.{and_parts, eqb-true, lt-leb}
+use Rattle.std.proofs.lemmas.Bool.{lt-leb}
 use Rattle.nb_journal.proofs.Tests.{le_to}
-use Rattle.nb_base.specs.declared.plan.Mode.{Mode}
-use Rattle.nb_base.specs.declared.plan.Mode.TheVariants as mode
 use Rattle.nb_base.specs.declared.plan.Plan.{Plan}
 use Rattle.pcap_records.specs.declared.capture.Rec.{Rec}
 use Rattle.pcap_records.specs.declared.fail.CaptureFail.{CaptureFail}
-use Rattle.pcap_records.specs.Capture.{IsCapture, IsRefusal}
+use Rattle.pcap_records.specs.Capture.{IsRefusal}
 use Rattle.pcap_records.proofs.Unique.{one_capture, capture_or_refusal}
 use Rattle.neigh_script.specs.declared.script.Script.{Script}
 use Rattle.neigh_script.specs.declared.why.ScriptFail.{ScriptFail}
@@ -17,7 +15,7 @@ use Rattle.neigh_script.specs.Lines.{script_of}
 use Rattle.neigh_words.specs.Settings.{Asked}
 use Rattle.neigh_plan.specs.Inline.{most_lines, plan_bound}
 use Rattle.neigh_plan.specs.Files.{plan_of_files}
-use Rattle.neigh_replay.specs.Verdict.{Verdict, Held, Gives, script_long, capture_long, capture_refused, script_refused, too_large, report, IsFile, IsLongFile, IsCaptureFile, IsToldName, HoldsBytes, AreTold, AreRead, HasRecords, HavePlan, script_limit, capture_limit, status_of}
+use Rattle.neigh_replay.specs.Verdict.{Verdict, Held, Gives, script_long, capture_long, capture_refused, script_refused, too_large, report, IsCaptureFile, IsToldName, HoldsBytes, AreTold, AreRead, HasRecords, HavePlan, script_limit, capture_limit, status_of}
 
 -- ---- the status by computing, from the records of the capture where it isn't refused
 

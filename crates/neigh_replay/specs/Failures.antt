@@ -1,5 +1,6 @@
 -- What the failures of a replay stand for. Nothing here is a definition to believe: it says what the parts of the code give, from which the whole of a replay is proved.
 use Rattle.std.specs.Prelude.{◌≡◌, ℕ, ◌<◌, ◌≤◌, List, [], length, take, Option, Some, None, IfSome, Ok, Err, unwrap_or}
+use Rattle.std.specs.List.{AllByRecursion}
 use Rattle.nb_base.specs.declared.plan.Plan.{Plan}
 use Rattle.pcap_records.specs.declared.capture.Rec.{Rec}
 use Rattle.pcap_records.specs.declared.fail.CaptureFail.{CaptureFail}
@@ -9,7 +10,7 @@ use Rattle.neigh_script.specs.declared.why.ScriptFail.TheVariants as script_fail
 use Rattle.neigh_script.specs.Lines.{script_of}
 use Rattle.neigh_run.specs.declared.run.Run.{Run}
 use Rattle.neigh_run.specs.Report.{report_text}
-use Rattle.neigh_run.specs.Inline.{IsInlineRun, journal_at}
+use Rattle.neigh_run.specs.Inline.{IsInlineRun}
 use Rattle.neigh_words.specs.Settings.{Asked}
 use Rattle.neigh_plan.specs.Inline.{most_lines, plan_bound, IsEnterable}
 use Rattle.neigh_plan.specs.Files.{plan_of_files}
@@ -17,7 +18,7 @@ use Rattle.neigh_replay.specs.declared.failure.File.{File}
 use Rattle.neigh_replay.specs.declared.failure.File.TheVariants as file
 use Rattle.neigh_replay.specs.declared.failure.Failure.{Failure}
 use Rattle.neigh_replay.specs.declared.failure.Failure.TheVariants.{Memory, ReadFault, WriteFault, TooLong, CaptureRefused, ScriptRefused, TooLarge}
-use Rattle.neigh_replay.specs.Verdict.{Verdict, Report, Held, HasRecords, capture_limit, status_of, line_of}
+use Rattle.neigh_replay.specs.Verdict.{Verdict, Report, Held, HasRecords, HasFewLines, capture_limit, status_of, line_of}
 use Rattle.neigh_replay.specs.Verdict as verdict
 use Rattle.neigh_replay.specs.Status.{memory_line, read_line, write_line}
 use Rattle.neigh_replay.specs.Replay.{FilesCall, SinkCall, GivesTold, SinkTakes, IsUntouched, SinkFailed, NameFailed}
@@ -29,7 +30,7 @@ pub record IsPlansReport (plan : Plan) (text : List ℕ) : Type 0 where
   pub run : Run
   pub bound : plan_bound plan < most_lines
   pub inline : IsInlineRun plan run
-  pub short : length (journal_at run.journals 0) ≤ most_lines
+  pub short : AllByRecursion HasFewLines run.journals
   pub spelled : text ≡ report_text run
 
 -- why a plan has no report
@@ -60,38 +61,38 @@ RefusesScript text Memory = Unit {0}
 RefusesScript text (ScriptRefused line why) = script_of text ≡ Err (script_fail.Refused line why)
 RefusesScript text _ = ⊥
 
--- the plan of a script's text, and of a capture where there is one
-pub record IsPlanOf (window : ℕ) (text : List ℕ) (capture : Option (List ℕ)) (plan : Plan) : Type 0 where
+-- the plan of a script's text, and of a capture where there is one, with a window and a number of buckets
+pub record IsPlanOf (window buckets : ℕ) (text : List ℕ) (capture : Option (List ℕ)) (plan : Plan) : Type 0 where
   pub records : List Rec
   pub captured : HasRecords capture records
   pub script : Script
   pub read : script_of text ≡ Ok script
-  pub planned : plan ≡ plan_of_files (unwrap_or capture []) records script window 1
+  pub planned : plan ≡ plan_of_files (unwrap_or capture []) records script window buckets
 
--- its operations go into a bucket, and without a capture it isn't too large
-pub record IsFilesPlan (window : ℕ) (text : List ℕ) (capture : Option (List ℕ)) (plan : Plan) : Type 0 where
-  pub made : IsPlanOf window text capture plan
+-- its operations go into the buckets of a table, and without a capture it isn't too large
+pub record IsFilesPlan (window buckets : ℕ) (text : List ℕ) (capture : Option (List ℕ)) (plan : Plan) : Type 0 where
+  pub made : IsPlanOf window buckets text capture plan
   pub enterable : IsEnterable plan
   pub small : capture ≡ None → plan_bound plan < most_lines
 
-pub record IsReportOf (window : ℕ) (text : List ℕ) (capture : Option (List ℕ)) (report : List ℕ) : Type 0 where
+pub record IsReportOf (window buckets : ℕ) (text : List ℕ) (capture : Option (List ℕ)) (report : List ℕ) : Type 0 where
   pub plan : Plan
-  pub made : IsPlanOf window text capture plan
+  pub made : IsPlanOf window buckets text capture plan
   pub report_is : IsPlansReport plan report
 
 -- the plan's line bound is too great
-pub record IsTooLarge (window : ℕ) (text : List ℕ) (capture : Option (List ℕ)) : Type 0 where
+pub record IsTooLarge (window buckets : ℕ) (text : List ℕ) (capture : Option (List ℕ)) : Type 0 where
   pub plan : Plan
-  pub made : IsFilesPlan window text capture plan
+  pub made : IsFilesPlan window buckets text capture plan
   pub large : most_lines ≤ plan_bound plan
 
 -- why they have no report
-abbrev pub Refuses : ℕ → List ℕ → Option (List ℕ) → Failure → Type 0
-Refuses window text capture Memory = Unit {0}
-Refuses window text capture (CaptureRefused fail) = IsRefused capture fail
-Refuses window text capture (ScriptRefused line why) = (records : List Rec) × HasRecords capture records × (script_of text ≡ Err (script_fail.Refused line why))
-Refuses window text capture TooLarge = IsTooLarge window text capture
-Refuses window text capture _ = ⊥
+abbrev pub Refuses : ℕ → ℕ → List ℕ → Option (List ℕ) → Failure → Type 0
+Refuses window buckets text capture Memory = Unit {0}
+Refuses window buckets text capture (CaptureRefused fail) = IsRefused capture fail
+Refuses window buckets text capture (ScriptRefused line why) = (records : List Rec) × HasRecords capture records × (script_of text ≡ Err (script_fail.Refused line why))
+Refuses window buckets text capture TooLarge = IsTooLarge window buckets text capture
+Refuses window buckets text capture _ = ⊥
 
 -- ---- of reading
 

@@ -1,40 +1,41 @@
 -- Participant 0's items one after the other, over the answers to their operations.
-use Rattle.std.specs.Prelude.{◌≡◌, ℕ, ◌+◌, ◌≤◌, List, [], ◌∷◌, ◌++◌, drop, length, Option, Some, None, IsTrue}
+use Rattle.std.specs.Prelude.{◌≡◌, ℕ, ◌+◌, ◌≤◌, List, [], ◌∷◌, ◌++◌, map, take, drop, length, Option, Some, None, IsTrue}
+use Rattle.std.specs.Option.{option_map_or}
 use Rattle.nb_base.specs.declared.op.Op.{Op}
 use Rattle.nb_base.specs.declared.plan.Plan.{Plan}
 use Rattle.nb_base.specs.declared.plan.ControlItem.{ControlItem}
 use Rattle.nb_base.specs.declared.host_line.Placed.{Placed}
 use Rattle.nb_base.specs.declared.host_line.HostLine.{HostLine}
+use Rattle.nb_journal.specs.Keys.{key_of}
+use Rattle.plain_table.specs.declared.answer.Answer.{Answer}
 use Rattle.nb_queues.specs.Proxies.{Proxies, are_due_by}
 use Rattle.neigh_run.specs.Control.{HostState, Turn, due_by, waiting_behind, answer_lines, control_at, item_turn, turn}
-use Rattle.neigh_replay.specs.declared.answers.Answer.{Answer}
 
 -- ---- answers
 
--- where an answer's operation stands, in a table of one bucket
-abbrev pub placed_by : Answer → Placed
-placed_by answer = record { bucket = 0; place = answer.place; reply = answer.reply }
+-- where the answers' operations stand
+abbrev pub places : List Answer → List Placed
+places answers = map (λ (answer : Answer). answer.placed) answers
 
-abbrev pub first_placed : List Answer → Option Placed
-first_placed [] = None
-first_placed (answer ∷ answers) = Some (placed_by answer)
+-- how many buckets an operation goes to: its key's alone, or all
+abbrev pub bucket_count_of : ℕ → Op → ℕ
+bucket_count_of buckets o = option_map_or (λ key. 1) (key_of o) buckets
 
--- an item with an operation has the next answer
-abbrev pub places_by : Option Op → List Answer → List Placed
-places_by None answers = []
-places_by (Some o) [] = []
-places_by (Some o) (answer ∷ answers) = placed_by answer ∷ []
+-- an item with an operation has the next answers, one of each bucket that the operation goes to
+abbrev pub places_by : ℕ → Option Op → List Answer → List Placed
+places_by buckets None answers = []
+places_by buckets (Some o) answers = places (take (bucket_count_of buckets o) answers)
 
-abbrev pub rest_by : Option Op → List Answer → List Answer
-rest_by None answers = answers
-rest_by (Some o) answers = drop 1 answers
+abbrev pub rest_by : ℕ → Option Op → List Answer → List Answer
+rest_by buckets None answers = answers
+rest_by buckets (Some o) answers = drop (bucket_count_of buckets o) answers
 
 -- what the host does at items, of which the first has this number, over the answers to their operations
 abbrev pub lines_by : Plan → HostState → ℕ → List ControlItem → List Answer → List HostLine
 lines_by plan s n [] answers = []
 lines_by plan s n (item ∷ items) answers =
     let here = turn plan s n item in
-    here.lines (places_by here.operation answers) ++ lines_by plan here.behind (n + 1) items (rest_by here.operation answers)
+    here.lines (places_by plan.buckets here.operation answers) ++ lines_by plan here.behind (n + 1) items (rest_by plan.buckets here.operation answers)
 
 -- ---- the walk over the items
 
@@ -62,12 +63,12 @@ start_table plan = record { keys = []; jobs = []; delay = plan.params.proxy_dela
 abbrev pub after_due : Plan → ℕ → Point → Point
 after_due plan at w = record { table = record w.table { jobs = waiting_behind at w.table.jobs }; answers = w.answers; lines = w.lines ++ answer_lines plan (due_by at w.table.jobs) }
 
-abbrev pub after_turn : Turn → Point → Point
-after_turn t w = record { table = table_in w.table t.behind; answers = rest_by t.operation w.answers; lines = w.lines ++ t.lines (places_by t.operation w.answers) }
+abbrev pub after_turn : Plan → Turn → Point → Point
+after_turn plan t w = record { table = table_in w.table t.behind; answers = rest_by plan.buckets t.operation w.answers; lines = w.lines ++ t.lines (places_by plan.buckets t.operation w.answers) }
 
 -- behind an item, where no answer is due
 abbrev pub after_own : Plan → ℕ → ControlItem → Point → Point
-after_own plan n item w = after_turn (item_turn plan (state_in w.table) n item) w
+after_own plan n item w = after_turn plan (item_turn plan (state_in w.table) n item) w
 
 -- behind an item
 abbrev pub after : Plan → ℕ → ControlItem → Point → Point

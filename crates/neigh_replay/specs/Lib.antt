@@ -3,4 +3,6 @@ pub mod Answered
 pub mod Verdict
 pub mod Status
 pub mod Replay
+pub mod Generated
+pub mod Command
 pub mod Failures

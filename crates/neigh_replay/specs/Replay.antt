@@ -1,16 +1,14 @@
--- What a call of the command does.
-use Rattle.std.specs.Prelude.{◌≡◌, ◌≢◌, ℕ, ◌<◌, true, List, [], ◌∷◌, take, Option, Some, None, slice_get}
+-- What a replay does.
+use Rattle.std.specs.Prelude.{◌≡◌, ◌≢◌, ℕ, ◌<◌, List, [], ◌∷◌, take, Option, Some, None, slice_get}
 use Rattle.std.specs.Io.KnownBytes.{Appends}
 use Rattle.nb_base.specs.declared.plan.Mode.TheVariants as mode
 use Rattle.nb_base.specs.declared.plan.Plan.{Plan}
 use Rattle.nb_io.specs.Faults.{Rose}
 use Rattle.neigh_plan.specs.Inline.{most_lines, plan_bound}
 use Rattle.neigh_words.specs.declared.options.Settings.{Settings}
-use Rattle.neigh_words.specs.Settings.{Asked, asked, asked_by}
-use Rattle.neigh_replay.specs.declared.program.NoWords.{NoWords}
-use Rattle.neigh_replay.specs.declared.program.NoWords.TheVariants.{NotText, Memory}
+use Rattle.neigh_words.specs.Settings.{Asked, asked_by}
 use Rattle.neigh_replay.specs.Verdict.{Verdict, Report, Held, AreTold, HavePlan, Gives, names_of, status_of, line_of, instead_of}
-use Rattle.neigh_replay.specs.Status.{IsOneOf, Says, memory_line, usage_line, read_line, write_line}
+use Rattle.neigh_replay.specs.Status.{IsOneOf, Says, memory_line, read_line, write_line}
 
 -- ---- what a call meets outside
 
@@ -134,24 +132,8 @@ ScriptsAreComplete =
     → NothingFailed a files out
     → IsOneOf (0 ∷ 1 ∷ []) status
 
--- ---- the command
+-- ---- the mode
 
 -- what settings ask for in the mode `inline`
 abbrev pub inline_by : Settings → Asked
 inline_by s = record (asked_by s) { mode = mode.Inline }
-
--- a call of the command with these words ended with the status
-pub record IsCommand (words : List (List ℕ)) (files : FilesCall) (out err : SinkCall) (status : ℕ) : Type 0 where
-  -- 2: exactly where the words aren't of the command, unless no memory was left before that was known
-  pub usage : status ≡ 2 → asked words ≡ None
-  pub usage_always : asked words ≡ None → IsOneOf (2 ∷ 1 ∷ []) status
-  pub usage_said : status ≡ 2 → SinkSays err usage_line
-  pub usage_untouched : asked words ≡ None → IsUntouched out
-  pub usage_memory : asked words ≡ None → status ≡ 1 → SinkSays err memory_line
-  -- otherwise it is a replay of what they ask for
-  pub replays : (a : Asked) → asked words ≡ Some a → IsReplay a files out err status
-
--- a program without words ended with the status: words that aren't text are none of the command's
-abbrev pub IsWithoutWords : NoWords → SinkCall → SinkCall → ℕ → Type 0
-IsWithoutWords NotText out err status = (status ≡ 2) × IsUntouched out × SinkSays err usage_line
-IsWithoutWords Memory out err status = (status ≡ 1) × IsUntouched out × SinkSays err memory_line

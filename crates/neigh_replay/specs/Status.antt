@@ -14,7 +14,7 @@ memory_line = codes "neigh: no memory\n"
 
 -- status 2: the words aren't of the command
 unfoldable pub usage_line : List ℕ
-usage_line = codes "neigh: usage: neigh --script FILE [--capture FILE] [--mode inline|threads] [--window MS] [--buckets N]\n"
+usage_line = codes "neigh: usage: neigh --script FILE [--capture FILE] [--mode inline|threads] [--window MS] [--buckets N] | neigh --generate NUMBER\n"
 
 -- status 3: the file of this name can't be read
 unfoldable pub read_line : List ℕ → List ℕ

@@ -1,7 +1,8 @@
 -- What is asked for and what the named files hold decide: one verdict, by the first stage that refuses, or a report (this project's own).
-use Rattle.std.specs.Prelude.{◌≡◌, ℕ, ◌<◌, ◌≤◌, Bool, true, false, ◌&&◌, ◌==◌, is_some, List, [], ◌∷◌, ◌++◌, length, Option, Some, None, unwrap_or, Ok, Err, codes, decimal}
+use Rattle.std.specs.Prelude.{◌≡◌, ℕ, ◌<◌, ◌≤◌, true, is_some, List, [], ◌∷◌, ◌++◌, length, Option, Some, None, unwrap_or, Ok, Err, codes, decimal}
 use Rattle.std.specs.Option.{option_to_list}
 use Rattle.std.specs.List.{AllByRecursion}
+use Rattle.nb_base.specs.declared.line.Line.{Line}
 use Rattle.nb_base.specs.declared.plan.Mode.{Mode}
 use Rattle.nb_base.specs.declared.plan.Mode.TheVariants as mode
 use Rattle.nb_base.specs.declared.plan.Plan.{Plan}
@@ -15,7 +16,7 @@ use Rattle.neigh_script.specs.declared.why.ScriptFail.TheVariants as script_fail
 use Rattle.neigh_script.specs.Lines.{script_of}
 use Rattle.neigh_script.specs.Why.{number_of}
 use Rattle.neigh_run.specs.declared.run.Run.{Run}
-use Rattle.neigh_run.specs.Inline.{IsInlineRun, journal_at}
+use Rattle.neigh_run.specs.Inline.{IsInlineRun}
 use Rattle.neigh_run.specs.Report.{report_text}
 use Rattle.neigh_words.specs.Settings.{Asked}
 use Rattle.neigh_plan.specs.Inline.{most_lines, plan_bound}
@@ -98,6 +99,10 @@ abbrev pub IsRunIn : Mode → Plan → Run → Type 0
 IsRunIn mode.Inline plan run = IsInlineRun plan run
 IsRunIn mode.Threads plan run = ⊥
 
+-- a journal has at most 2^22 lines
+abbrev pub HasFewLines : List Line → Type 0
+HasFewLines journal = length journal ≤ most_lines
+
 -- ---- the verdict
 
 pub data Verdict : Type 0 where
@@ -121,9 +126,9 @@ pub data Gives : Asked → Held → Verdict → Type 0 where
       → AreRead a held text capture → HasRecords capture records → script_of text ≡ Err (script_fail.Refused line why) → Gives a held (ScriptRefused line why)
   -- the plan's line bound is at least 2^22
   too_large : {a : Asked} {held : Held} (plan : Plan) → HavePlan a held plan → most_lines ≤ plan_bound plan → Gives a held TooLarge
-  -- the report is the text of the plan's run in the mode that is asked for
+  -- the report is the text of the plan's run in the mode that is asked for, each of whose journals has at most 2^22 lines
   report : {a : Asked} {held : Held} {text : List ℕ} (plan : Plan) (run : Run) → HavePlan a held plan → plan_bound plan < most_lines
-      → IsRunIn a.mode plan run → length (journal_at run.journals 0) ≤ most_lines → text ≡ report_text run → Gives a held (Report text)
+      → IsRunIn a.mode plan run → AllByRecursion HasFewLines run.journals → text ≡ report_text run → Gives a held (Report text)
 
 -- ---- what a verdict shows
 

@@ -1,6 +1,7 @@
 //! From the names of files to the plan of what they hold.
-ghost use Rattle.std.specs.Prelude.{◌≡◌, ℕ, ◌≤◌, List, [], unwrap_or, length, IfOk, MatchResult, string_bytes};
+ghost use Rattle.std.specs.Prelude.{◌≡◌, ℕ, ◌≤◌, List, [], unwrap_or, length, IfOk, IsTrue, MatchResult, string_bytes};
 ghost use Rattle.std.specs.Option.{option_map};
+ghost use Rattle.nb_base.specs.Buckets.{is_bucket_count};
 ghost use Rattle.pcap_records.specs.Capture.{AreBounded};
 ghost use Rattle.neigh_script.specs.Limits as limits;
 ghost use Rattle.neigh_replay.specs.Replay.{files_call};
@@ -111,17 +112,19 @@ fn bytes_of(capture: &Option<Bytes>) -> &[u8]
     }
 }
 
-/// The plan of a script's text, and of a capture where there is one. The capture is checked before the script.
+/// The plan of a script's text, and of a capture where there is one, with a window and a number of buckets. The capture is checked before the script.
 pub(crate) fn plan_of(
     alloc: Global,
     window: u32,
+    buckets: u32,
     text: &Bytes,
     capture: &Option<Bytes>,
 ) -> Result<Plan, Failure>
-    ensures { MatchResult result (IsFilesPlan window text.now capture.now) (Refuses window text.now capture.now) }
+    requires { IsTrue (is_bucket_count buckets) }
+    ensures { MatchResult result (IsFilesPlan window buckets text.now capture.now) (Refuses window buckets text.now capture.now) }
 {
     let records = records_of(alloc, capture)?;
     let script = script_of(alloc, text)?;
-    let plan = plan(alloc, &records, bytes_of(capture), &script, window, 1)?;
+    let plan = plan(alloc, &records, bytes_of(capture), &script, window, buckets)?;
     Ok(plan)
 }

@@ -1,5 +1,5 @@
 //! What the host does at participant 0's items: frames that it hears, operations, proxy entries, and answers to proxied requests at their dues.
-ghost use Rattle.std.specs.Prelude.{◌≡◌, ◌<◌, ◌≤◌, drop, IfOk, OnOk};
+ghost use Rattle.std.specs.Prelude.{◌≡◌, ◌<◌, ◌≤◌, take, drop, IfOk, OnOk};
 ghost use Rattle.nb_base.specs.declared.op.Op.{Op};
 ghost use Rattle.nb_base.specs.declared.plan.ControlItem.TheVariants as control;
 ghost use Rattle.std.specs.Option.{option_map};
@@ -11,21 +11,46 @@ ghost use Rattle.neigh_plan.specs.Inline.{last_item_at};
 ghost use Rattle.neigh_replay.specs.Hosting as by;
 ghost use Rattle.neigh_replay.specs.Hosting.{IsReady, state_in, table_in, at_point, after_due, after_own, after, lines_by};
 
-use crate::answers::Answer;
 use heard_frames::{answer, hear};
 use nb_base::{Bytes, ControlItem, HostLine, Items, Key, Moment, Op, Placed, Plan};
+use nb_journal::key_of;
 use nb_queues::{ProxyRequest, ProxyTable};
+use plain_table::Answer;
 use std::alloc::{AllocError, Global};
 
-/// Where the answer's operation stands. Its bucket is the table's one.
-fn placed_by(answer: &Answer) -> Placed
-    ensures { result ≡ by.placed_by answer.now }
+/// How many buckets an operation goes to: its key's alone, or all.
+fn bucket_count_of(plan: &Plan, op: &Op) -> usize
+    ensures { result ≡ by.bucket_count_of plan.now.buckets op.now }
 {
-    Placed {
-        bucket: 0,
-        place: answer.place,
-        reply: answer.reply,
+    match key_of(op) {
+        Some(_) => 1,
+        None => plan.buckets as usize,
     }
+}
+
+/// The first answers, of which there are no more than the answers.
+fn split(answers: &[Answer], count: usize) -> (&[Answer], &[Answer])
+    ensures front { result.0.now ≡ take count answers.now }
+    ensures rest { result.1.now ≡ drop count answers.now }
+{
+    answers.split_at(count.min(answers.len()))
+}
+
+fn first_place(answers: &[Answer]) -> Option<Placed>
+    ensures { result ≡ first_of (by.places answers.now) }
+{
+    let answer = answers.first()?;
+    Some(answer.placed)
+}
+
+fn places(alloc: Global, answers: &[Answer]) -> Result<Items<Placed>, AllocError>
+    ensures { IfOk result (λ all. all ≡ by.places answers.now) }
+{
+    let mut all = Items::new(alloc);
+    for answer in answers {
+        all.push(answer.placed)?;
+    }
+    Ok(all)
 }
 
 /// The host behind some of participant 0's items: its proxied addresses with the requests that wait, the answers that are left, and what it did.
@@ -36,17 +61,17 @@ struct Walk<'a> {
     lines: Items<HostLine>,
 }
 
-impl Walk<'_> {
-    /// Takes the next answer, where there is one.
-    fn next_placed(&mut self) -> Option<Placed>
-        ensures placed { result ≡ by.first_placed self.old.answers.now }
-        ensures rest { self.new.answers.now ≡ drop 1 self.old.answers.now }
+impl<'a> Walk<'a> {
+    /// Takes the next answers, one of each bucket that the operation goes to.
+    fn take_answers(&mut self, plan: &Plan, op: &Op) -> &'a [Answer]
+        ensures answers { result.now ≡ take (by.bucket_count_of plan.now.buckets op.now) self.old.answers.now }
+        ensures rest { self.new.answers.now ≡ drop (by.bucket_count_of plan.now.buckets op.now) self.old.answers.now }
         ensures proxies { self.new.proxies ≡ self.old.proxies }
         ensures lines { self.new.lines ≡ self.old.lines }
     {
-        let (first, rest) = self.answers.split_first()?;
+        let (answers, rest) = split(self.answers, bucket_count_of(plan, op));
         self.answers = rest;
-        Some(placed_by(first))
+        answers
     }
 
     /// Answers the requests that are due by a moment, each at its due.
@@ -79,15 +104,15 @@ impl Walk<'_> {
         }
     }
 
-    /// Where an operation stands, where there is one.
-    fn placed_for(&mut self, op: Option<Op>) -> Option<Placed>
-        ensures value { result ≡ first_of (by.places_by op self.old.answers.now) }
-        ensures answers { self.new.answers.now ≡ by.rest_by op self.old.answers.now }
+    /// Where a frame's operation stands, where it has one.
+    fn placed_for(&mut self, plan: &Plan, op: Option<Op>) -> Option<Placed>
+        ensures value { result ≡ first_of (by.places_by plan.now.buckets op self.old.answers.now) }
+        ensures answers { self.new.answers.now ≡ by.rest_by plan.now.buckets op self.old.answers.now }
         ensures proxies { self.new.proxies ≡ self.old.proxies }
         ensures lines { self.new.lines ≡ self.old.lines }
     {
         match op {
-            Some(_) => self.next_placed(),
+            Some(op) => first_place(self.take_answers(plan, &op)),
             None => None,
         }
     }
@@ -108,7 +133,7 @@ impl Walk<'_> {
     {
         let heard = hear(alloc, &plan.host, &self.proxies, bytes.as_slice())?;
         let queued = self.queue(plan, at, heard.request);
-        let op = self.placed_for(heard.op);
+        let op = self.placed_for(plan, heard.op);
         self.lines.push(HostLine::Frame {
             n,
             at,
@@ -120,13 +145,17 @@ impl Walk<'_> {
     }
 
     /// An operation on the table.
-    fn take_operation(&mut self, alloc: Global, n: u32, at: Moment) -> Result<(), AllocError>
-        ensures { (plan : Plan) (o : Op) → OnOk result (at_point self.new.proxies self.new.answers.now self.new.lines ≡ after_own plan n (control.Neigh at o) (at_point self.old.proxies self.old.answers.now self.old.lines)) }
+    fn take_operation(
+        &mut self,
+        alloc: Global,
+        plan: &Plan,
+        n: u32,
+        at: Moment,
+        op: &Op,
+    ) -> Result<(), AllocError>
+        ensures { OnOk result (at_point self.new.proxies self.new.answers.now self.new.lines ≡ after_own plan.now n (control.Neigh at op.now) (at_point self.old.proxies self.old.answers.now self.old.lines)) }
     {
-        let mut ops = Items::new(alloc);
-        if let Some(placed) = self.next_placed() {
-            ops.push(placed)?;
-        }
+        let ops = places(alloc, self.take_answers(plan, op))?;
         self.lines.push(HostLine::Neigh { n, at, ops })
     }
 
@@ -160,9 +189,9 @@ impl Walk<'_> {
                 self.answer_due(alloc, plan, *at)?;
                 self.take_frame(alloc, plan, n, *at, bytes)
             }
-            ControlItem::Neigh { at, .. } => {
+            ControlItem::Neigh { at, op } => {
                 self.answer_due(alloc, plan, *at)?;
-                self.take_operation(alloc, n, *at)
+                self.take_operation(alloc, plan, n, *at, op)
             }
             ControlItem::Proxy { at, key, add } => {
                 self.answer_due(alloc, plan, *at)?;

@@ -1,15 +1,17 @@
-//! The inline run of a plan: its operations are entered into one bucket in merged order, and what the bucket answers goes to the participants.
-ghost use Rattle.std.specs.Prelude.{◌≡◌, ◌≤◌, ◌<◌, ◌^◌, ◌/◌, [], ◌∷◌, ◌++◌, length, IfOk, OnOk};
-ghost use Rattle.neigh_run.specs.Inline.{IsInlineRun, journal_at};
+//! The inline run of a plan: its operations are entered into a table in merged order, and what its buckets answer goes to the participants.
+ghost use Rattle.std.specs.Prelude.{◌≡◌, ◌≤◌, ◌<◌, [], ◌∷◌, ◌++◌, IfOk, OnOk};
+ghost use Rattle.std.specs.List.{AllByRecursion};
+ghost use Rattle.plain_table.specs.Table as table_of;
+ghost use Rattle.neigh_run.specs.Inline.{IsInlineRun};
 ghost use Rattle.neigh_plan.specs.Inline.{most_lines, plan_bound, IsEnterable};
 ghost use Rattle.neigh_replay.specs.Answered as by;
+ghost use Rattle.neigh_replay.specs.Verdict.{HasFewLines};
 
-use crate::answers::{Answer, enter_all};
 use crate::host::host_lines_of;
 use nb_base::{Items, Journals, Line, Log, Mode, Outcome, Plan, Why};
-use nb_bucket::{Bucket, MOST_LINES};
 use neigh_plan::merged_lines;
 use neigh_run::Run;
+use plain_table::{Answer, PlainTable};
 use std::alloc::{AllocError, Global};
 
 fn is_to(participant: u32, answer: &Answer) -> bool
@@ -25,8 +27,8 @@ fn take_outcome(log: &mut Log, participant: u32, answer: &Answer) -> Result<(), 
     if is_to(participant, answer) {
         log.push(Outcome::Slow {
             why: Why::Inline,
-            place: answer.place,
-            reply: answer.reply,
+            place: answer.placed.place,
+            reply: answer.placed.reply,
         })
     } else {
         Ok(())
@@ -80,22 +82,33 @@ fn own_answers(
     Ok(own)
 }
 
-fn one_journal(alloc: Global, lines: &[Line]) -> Result<Journals, AllocError>
-    ensures { IfOk result (λ journals. journals ≡ lines.now ∷ []) }
+fn copy(alloc: Global, lines: &[Line]) -> Result<Items<Line>, AllocError>
+    ensures { IfOk result (λ copy. copy ≡ lines.now) }
+{
+    Ok(Items::from_vec(lines.to_vec(alloc)?))
+}
+
+/// The journals of a table's buckets, in order of number.
+fn journals_of(alloc: Global, table: &PlainTable) -> Result<Journals, AllocError>
+    ensures journals { IfOk result (λ journals. journals ≡ table_of.journals_of table.now) }
+    ensures few { IfOk result (AllByRecursion HasFewLines) }
 {
     let mut journals = Items::new(alloc);
-    journals.push(Items::from_vec(lines.to_vec(alloc)?))?;
+    for bucket in 0..table.buckets() {
+        let journal = copy(alloc, table.lines(bucket))?;
+        journals.push(journal)?;
+    }
     Ok(journals)
 }
 
 fn run_with(
     alloc: Global,
     plan: Plan,
-    journal: &[Line],
+    journals: Journals,
     answers: &[Answer],
 ) -> Result<Run, AllocError>
     requires plan { IsEnterable plan }
-    ensures { IfOk result (λ run. run ≡ by.run_by plan journal.now answers.now) }
+    ensures { IfOk result (λ run. run ≡ by.run_by plan journals answers.now) }
 {
     let own = own_answers(alloc, 0, answers)?;
     let host_lines = host_lines_of(alloc, &plan, own.as_slice())?;
@@ -103,15 +116,15 @@ fn run_with(
     Ok(Run {
         mode: Mode::Inline,
         plan,
-        journals: one_journal(alloc, journal)?,
+        journals,
         host_lines,
         logs,
         marks: Items::new(alloc),
     })
 }
 
-/// The inline run of a plan. Its operations are entered into a bucket in merged order, and its line bound is below 2^22, so the run's journal
-/// has at most 2^22 lines.
+/// The inline run of a plan. Its operations are entered in merged order, each into the buckets that it goes to, and its line bound is below
+/// 2^22, so each of the run's journals has at most 2^22 lines.
 ///
 /// # Errors
 /// Want of memory.
@@ -119,11 +132,12 @@ pub fn replay_inline(alloc: Global, plan: Plan) -> Result<Run, AllocError>
     requires plan { IsEnterable plan }
     requires bound { plan_bound plan < most_lines }
     ensures run { IfOk result (IsInlineRun plan) }
-    ensures short { IfOk result (λ run. length (journal_at run.journals 0) ≤ most_lines) }
+    ensures short { IfOk result (λ run. AllByRecursion HasFewLines run.journals) }
 {
     let lines = merged_lines(alloc, &plan)?;
-    let mut bucket = Bucket::new(alloc, &plan.params, &plan.host, MOST_LINES)?;
-    let answers = enter_all(alloc, &mut bucket, lines.as_slice())?;
-    let run = run_with(alloc, plan, bucket.lines(), answers.as_slice())?;
+    let mut table = PlainTable::new(alloc, &plan.params, &plan.host, plan.buckets)?;
+    let answers = table.enter_all(alloc, lines.as_slice())?;
+    let journals = journals_of(alloc, &table)?;
+    let run = run_with(alloc, plan, journals, answers.as_slice())?;
     Ok(run)
 }

@@ -1,6 +1,7 @@
 //! The program: the words that it was given, and the command that they make.
 ghost use Rattle.std.specs.Prelude.{◌≡◌, map, string_bytes, MatchResult};
-ghost use Rattle.neigh_replay.specs.Replay.{IsCommand, IsWithoutWords, files_call, sink_call};
+ghost use Rattle.neigh_replay.specs.Command.{IsCommand, IsWithoutWords};
+ghost use Rattle.neigh_replay.specs.Replay.{files_call, sink_call};
 
 use crate::status::{say_no_memory, say_usage};
 use crate::top::run;

@@ -1,5 +1,6 @@
 //! From what is asked for to the report.
-ghost use Rattle.std.specs.Prelude.{MatchResult};
+ghost use Rattle.std.specs.Prelude.{IsTrue, MatchResult};
+ghost use Rattle.nb_base.specs.Buckets.{is_bucket_count};
 ghost use Rattle.neigh_plan.specs.Inline.{IsEnterable};
 ghost use Rattle.neigh_replay.specs.Verdict.{Report};
 ghost use Rattle.neigh_replay.specs.Replay.{GivesTold, files_call, sink_call, inline_by};
@@ -48,19 +49,21 @@ fn report_of<I: Inputs>(
 {
     let text = read_script(alloc, inputs, settings.script.as_str())?;
     let capture = read_capture(alloc, inputs, &settings.capture)?;
-    report_of_files(alloc, settings.window, &text, &capture)
+    report_of_files(alloc, settings.window, settings.buckets, &text, &capture)
 }
 
-/// The report of a script's text, and of a capture where there is one.
+/// The report of a script's text, and of a capture where there is one, with a window and a number of buckets.
 fn report_of_files(
     alloc: Global,
     window: u32,
+    buckets: u32,
     text: &Bytes,
     capture: &Option<Bytes>,
 ) -> Result<Bytes, Failure>
-    ensures { MatchResult result (IsReportOf window text.now capture.now) (Refuses window text.now capture.now) }
+    requires { IsTrue (is_bucket_count buckets) }
+    ensures { MatchResult result (IsReportOf window buckets text.now capture.now) (Refuses window buckets text.now capture.now) }
 {
-    let plan = plan_of(alloc, window, text, capture)?;
+    let plan = plan_of(alloc, window, buckets, text, capture)?;
     report_of_plan(alloc, plan)
 }
 

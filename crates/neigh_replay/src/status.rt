@@ -113,12 +113,13 @@ pub fn say_usage<E: Sink>(err: &mut E)
 {
     say(
         err,
-        b"neigh: usage: neigh --script FILE [--capture FILE] [--mode inline|threads] [--window MS] [--buckets N]\n",
+        b"neigh: usage: neigh --script FILE [--capture FILE] [--mode inline|threads] [--window MS] [--buckets N] | neigh --generate NUMBER\n",
     );
 }
 
+/// Says that the output can't be written.
 #[tactic(auto, unfolding(crate::specs::Status::write_line))]
-fn say_write_fault<E: Sink>(err: &mut E)
+pub fn say_write_fault<E: Sink>(err: &mut E)
     ensures { Says (E.taken err.old) (E.taken err.new) (E.faults err.old) (E.faults err.new) write_line }
 {
     say(err, b"neigh: cannot write\n");

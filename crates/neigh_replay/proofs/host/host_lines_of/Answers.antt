@@ -1,8 +1,7 @@
 -- One item more, and the whole walk behind the last.
-use Rattle.std.proofs.Common.{ℕ, ◌+◌, ◌≤◌, List, length, drop, sym, ◌∙◌, ap, subst, arith}
-use Rattle.nb_queues.specs.Proxies.{Proxies}
+use Rattle.std.proofs.Common.{◌+◌, length, drop, sym, ◌∙◌, ap, arith}
 use Rattle.neigh_run.specs.Control.{control_at}
-use Rattle.neigh_replay.specs.Hosting.{Point, at_point, walked, IsReady}
+use Rattle.neigh_replay.specs.Hosting.{at_point, walked}
 use Rattle.neigh_replay.proofs.Tasks.{control_early}
 use Rattle.neigh_replay.proofs.Hosting.{next_item, upto_item, upto_all, upto_taken, walked_more, whole_walk, ready_later}
 use Rattle.neigh_replay.proofs.host.host_lines_of.Goals as goal

@@ -1,6 +1,6 @@
 -- Behind the items so far the rest of the walk is what is left of the whole, and the requests that wait are ready for every later moment.
 use Rattle.std.proofs.Common.{◌≡◌, ℕ, ◌+◌, ◌≤◌, [], drop, take, map}
-use Rattle.neigh_run.specs.Control.{host_start, control_at}
+use Rattle.neigh_run.specs.Control.{control_at}
 use Rattle.neigh_plan.specs.Inline.{greatest_of}
 use Rattle.neigh_replay.specs.Hosting.{at_point, walked, IsReady, start_table}
 use Rattle.neigh_replay.proofs.host.host_lines_of.Given as goal

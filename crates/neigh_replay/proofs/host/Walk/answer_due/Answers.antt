@@ -1,4 +1,4 @@
-use Rattle.std.proofs.Common.{◌∙◌, refl}
+use Rattle.std.proofs.Common.{◌∙◌}
 use Rattle.neigh_replay.proofs.Hosting.{nothing_due}
 use Rattle.neigh_replay.proofs.host.Walk.answer_due.Goals as goal
 

@@ -16,14 +16,14 @@ returns-in_ok-answer_due-in-Neigh-clause-taken c =
     on_ok c.take_operation.result _ _
     (taken_by c.args.plan.now c.args.n c.args.item.now (control.Neigh c.in-Neigh.at c.in-Neigh.op) (at_point c.args.self.now.proxies c.args.self.now.answers.now c.args.self.now.lines) (at_point c.answer_due-in-Neigh.new.self.proxies c.answer_due-in-Neigh.new.self.answers.now c.answer_due-in-Neigh.new.self.lines) _
     c.in-Neigh.is c.in_ok-answer_due-in-Neigh.ensures)
-    (c.take_operation.ensures c.args.plan.now c.in-Neigh.op)
+    c.take_operation.ensures
 
 pub returns-in_ok-answer_due-in-Neigh-clause-ready : goal.returns-in_ok-answer_due-in-Neigh-clause-ready
 returns-in_ok-answer_due-in-Neigh-clause-ready c =
     on_ok c.take_operation.result _ _
     (ready_own c.args.plan.now c.args.n c.args.item.now (control.Neigh c.in-Neigh.at c.in-Neigh.op) (at_point c.args.self.now.proxies c.args.self.now.answers.now c.args.self.now.lines) (at_point c.answer_due-in-Neigh.new.self.proxies c.answer_due-in-Neigh.new.self.answers.now c.answer_due-in-Neigh.new.self.lines) _
     c.answer_due-in-Neigh.new.self.proxies.keys c.in-Neigh.is refl c.in_ok-answer_due-in-Neigh.ensures c.requires.ready)
-    (c.take_operation.ensures c.args.plan.now c.in-Neigh.op)
+    c.take_operation.ensures
 
 pub returns-in_ok-answer_due-in-Proxy-clause-taken : goal.returns-in_ok-answer_due-in-Proxy-clause-taken
 returns-in_ok-answer_due-in-Proxy-clause-taken c =
