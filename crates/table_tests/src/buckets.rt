@@ -1,60 +1,16 @@
 ghost use Rattle.std.specs.Prelude.{◌≡◌, ◌+◌, ◌≤◌, ◌^◌, true};
+ghost use Rattle.nb_base.specs.Params.{InRange};
 ghost use Rattle.nud_machine.specs.Asked.{greatest};
 ghost use Rattle.nb_journal.specs.Keys.{may_be_asked};
 ghost use Rattle.nb_journal.specs.Keys as keys_of;
 
-use nb_base::{Host, Key, Line, Mac, Moment, Name, Nud, Op, OpId, Params, Reply};
+use crate::rows::{at_bar, cut, line_of, lines_of, reply_of, ten};
+use nb_base::{Host, Line, Mac, Moment, Name, Nud, Params, Reply};
 use nb_bucket::{Bucket, BucketFail};
 use nb_census::PlainCensus;
 use nb_journal::{is_line_of_run, is_own};
 use std::alloc::Global;
 use std::test::Fail;
-
-/// 10.0.0.N
-fn ten(n: u8) -> Key {
-    Key::V4(0x0a00_0000 + u32::from(n))
-}
-
-fn send(n: u8) -> Op {
-    Op::Send {
-        key: ten(n),
-        len: 1,
-    }
-}
-
-fn line(at: u64, id: Option<OpId>, op: Op) -> Line {
-    Line {
-        at: Moment(at),
-        id,
-        op,
-        seen: None,
-        full: None,
-    }
-}
-
-fn own(at: u64, id: u64, op: Op) -> Line {
-    line(at, Some(OpId(id)), op)
-}
-
-fn timer(at: u64, n: u8) -> Line {
-    line(at, None, Op::Timer { key: ten(n) })
-}
-
-fn collect(at: u64, n: u8) -> Line {
-    line(at, None, Op::Collect { key: ten(n) })
-}
-
-/// The line, which saw so many entries.
-fn saw(line: Line, seen: u32) -> Line {
-    Line {
-        seen: Some(seen),
-        ..line
-    }
-}
-
-fn sweep(at: u64, seen: u32) -> Line {
-    saw(line(at, None, Op::Sweep), seen)
-}
 
 fn host() -> Option<Host> {
     Some(Host {
@@ -63,6 +19,15 @@ fn host() -> Option<Host> {
         ip4: Some(0x0a00_00fe),
         ip6: None,
     })
+}
+
+/// A bucket whose journal may have up to so many lines.
+fn bucket(alloc: Global, params: &Params, limit: u32) -> Result<Bucket, Fail>
+    requires params { InRange params.now }
+    requires limit { limit ≤ 100 }
+{
+    let host = host().ok_or("a host")?;
+    Ok(Bucket::new(alloc, params, &host, limit)?)
 }
 
 /// Whether the line is one of an operation that may be entered.
@@ -93,35 +58,181 @@ fn entered(
     }
 }
 
-/// What the bucket answers where it goes on, and the other buckets have no entry.
-fn advanced(alloc: Global, bucket: &mut Bucket, to: u64) -> Result<(), BucketFail>
-    requires { to ≤ greatest }
-{
+/// What the bucket answers where the other one has entries too.
+fn entered_beside(
+    alloc: Global,
+    bucket: &mut Bucket,
+    other: &Bucket,
+    line: &Line,
+) -> Option<Result<(u32, Reply), BucketFail>> {
+    entered(alloc, bucket, other.present(), line)
+}
+
+/// What the bucket answers where it goes on, and the other buckets have no entry; `None` where it may not go on.
+fn advanced(alloc: Global, bucket: &mut Bucket, to: u64) -> Option<Result<(), BucketFail>> {
+    if to > Moment::GREATEST {
+        return None;
+    }
     let share = bucket.present();
     let mut census = PlainCensus::new(share, share);
-    bucket.advance(alloc, &mut census, Moment(to))
+    Some(bucket.advance(alloc, &mut census, Moment(to)))
 }
+
+fn present(bucket: &Bucket) -> u32 {
+    bucket.present()
+}
+
+fn clock(bucket: &Bucket) -> Moment {
+    bucket.clock()
+}
+
+fn has_lines(bucket: &Bucket, lines: &[Line]) -> bool {
+    bucket.lines() == lines
+}
+
+fn nud_in(bucket: &Bucket, n: u8) -> Option<Nud> {
+    Some(bucket.entry(&ten(n))?.nud)
+}
+
+/// Whether the bucket has exactly the rows' lines.
+fn has_rows(alloc: Global, bucket: &Bucket, rows: &str) -> Result<bool, Fail> {
+    let lines = lines_of(alloc, rows)?;
+    Ok(has_lines(bucket, &lines))
+}
+
+/// The refusal that the text says: how many lines there are, and how many are needed.
+fn refusal_of(text: &str) -> Option<BucketFail> {
+    let (has, needs) = cut(text)?;
+    Some(BucketFail::JournalFull {
+        has: has.parse().ok()?,
+        needs: needs.parse().ok()?,
+    })
+}
+
+fn place_and_reply(text: &str) -> Option<(u32, Reply)> {
+    let (place, reply) = cut(text)?;
+    Some((place.parse().ok()?, reply_of(reply)??))
+}
+
+/// A place and a reply, or what stands behind `refused`.
+fn answer_of(text: &str) -> Option<Result<(u32, Reply), BucketFail>> {
+    match text.strip_prefix("refused ") {
+        Some(refusal) => Some(Err(refusal_of(refusal)?)),
+        None => Some(Ok(place_and_reply(text)?)),
+    }
+}
+
+/// The row's line and the answer to it.
+fn line_and_answer(row: &str) -> Option<(Line, Result<(u32, Reply), BucketFail>)> {
+    let (line, answer) = at_bar(row)?;
+    Some((line_of(line)?, answer_of(answer)?))
+}
+
+/// Whether the bucket answers the row's line as it says.
+fn answers_so(alloc: Global, bucket: &mut Bucket, row: &str) -> Result<bool, Fail> {
+    let (line, answer) = line_and_answer(row).ok_or("a row")?;
+    Ok(entered(alloc, bucket, 0, &line) == Some(answer))
+}
+
+/// The first row whose line isn't answered as it says.
+fn first_other_answer<'a>(
+    alloc: Global,
+    bucket: &mut Bucket,
+    rows: &'a str,
+) -> Result<Option<&'a str>, Fail> {
+    for row in rows.lines() {
+        if !answers_so(alloc, bucket, row)? {
+            return Ok(Some(row));
+        }
+    }
+    Ok(None)
+}
+
+/// What a bucket is asked, and what it has then.
+#[derive(Clone, Copy)]
+struct Worked {
+    /// Lines, each with a bar and the answer to it.
+    asked: &'static str,
+    /// How far the bucket goes on afterwards.
+    to: Option<u64>,
+    lines: &'static str,
+    present: u32,
+    clock: u64,
+    /// The state of 10.0.0.13.
+    thirteenth: Option<Nud>,
+}
+
+/// Whether the bucket goes on to the moment, where there is one.
+fn goes_on(alloc: Global, bucket: &mut Bucket, to: Option<u64>) -> bool {
+    match to {
+        None => true,
+        Some(to) => advanced(alloc, bucket, to) == Some(Ok(())),
+    }
+}
+
+/// Whether the bucket has what it is to have.
+fn has_all(alloc: Global, bucket: &Bucket, worked: &Worked) -> Result<bool, Fail> {
+    let numbers = present(bucket) == worked.present && clock(bucket) == Moment(worked.clock);
+    let state = nud_in(bucket, 13) == worked.thirteenth;
+    Ok(has_rows(alloc, bucket, worked.lines)? && numbers && state)
+}
+
+/// The first thing that isn't as it is to be.
+fn first_wrong_of(
+    alloc: Global,
+    bucket: &mut Bucket,
+    worked: &Worked,
+) -> Result<Option<&'static str>, Fail> {
+    let other = first_other_answer(alloc, bucket, worked.asked)?;
+    if other.is_some() {
+        return Ok(other);
+    }
+    if !goes_on(alloc, bucket, worked.to) {
+        return Ok(Some("goes on"));
+    }
+    if !has_all(alloc, bucket, worked)? {
+        return Ok(Some("has all"));
+    }
+    Ok(None)
+}
+
+/// The first thing that isn't as it is to be, of a bucket whose journal may have up to so many lines.
+fn first_wrong(
+    alloc: Global,
+    params: &Params,
+    limit: u32,
+    worked: &Worked,
+) -> Result<Option<&'static str>, Fail>
+    requires params { InRange params.now }
+    requires limit { limit ≤ 100 }
+{
+    let mut bucket = bucket(alloc, params, limit)?;
+    first_wrong_of(alloc, &mut bucket, worked)
+}
+
+const FULL_JOURNAL: Worked = Worked {
+    asked: "\
+0 33 send 1 1 - -|0 waits 0
+5 65 send 1 1 - -|1 waits 0
+5 97 show - - - -|refused 2 1
+900 97 show - - - -|refused 2 1
+5 97 send 2 1 - -|refused 2 1
+7000 97 show - - - -|refused 2 1
+",
+    to: None,
+    lines: "\
+0 33 send 1 1 0 -
+5 65 send 1 1 - -
+",
+    present: 1,
+    clock: 5,
+    thirteenth: None,
+};
 
 #[test]
 fn a_full_journal(rt: HostRuntime) -> Result<(), Fail> {
-    let alloc = rt.alloc();
-    let waits = Reply::Waits { dropped: 0 };
-    let full = BucketFail::JournalFull { has: 2, needs: 1 };
-    let table = [
-        (own(0, 33, send(1)), Ok((0, waits))),
-        (own(5, 65, send(1)), Ok((1, waits))),
-        (own(5, 97, Op::Show), Err(full)),
-        (own(900, 97, Op::Show), Err(full)),
-        (own(5, 97, send(2)), Err(full)),
-        (own(7000, 97, Op::Show), Err(full)),
-    ];
-    let mut bucket = Bucket::new(alloc, &Params::DEFAULT, &host().ok_or("a host")?, 2)?;
-    for (line, answer) in table {
-        assert_eq!(rt; entered(alloc, &mut bucket, 0, &line), Some(answer));
-    }
-    let lines = [saw(own(0, 33, send(1)), 0), own(5, 65, send(1))];
-    assert_eq!(rt; bucket.lines(), lines.as_slice());
-    assert_eq!(rt; bucket.clock(), Moment(5));
+    let wrong = first_wrong(rt.alloc(), &Params::DEFAULT, 2, &FULL_JOURNAL)?;
+    assert_eq!(rt; wrong, None);
     Ok(())
 }
 
@@ -133,90 +244,125 @@ const SMALL: Params = Params {
     ..Params::DEFAULT
 };
 
+const FORCED_PASS: Worked = Worked {
+    asked: "\
+0 33 send 11 1 - -|0 waits 0
+0 65 send 12 1 - -|1 waits 0
+0 97 send 13 1 - -|2 waits 0
+0 129 send 14 1 - -|3 full 3
+5001 161 send 14 1 - -|15 waits 0
+5001 32 show - - - -|16 counted 2
+",
+    to: Some(6001),
+    lines: "\
+0 33 send 11 1 0 -
+0 65 send 12 1 1 -
+0 97 send 13 1 2 -
+0 129 send 14 1 3 3
+1000 - timer 11 - - -
+1000 - timer 12 - - -
+1000 - timer 13 - - -
+2000 - timer 11 - - -
+2000 - timer 12 - - -
+2000 - timer 13 - - -
+3000 - timer 11 - - -
+3000 - timer 12 - - -
+3000 - timer 13 - - -
+5001 - collect 11 - - -
+5001 - collect 12 - - -
+5001 161 send 14 1 3 -
+5001 32 show - - - -
+6001 - timer 14 - - -
+",
+    present: 2,
+    clock: 6001,
+    thirteenth: Some(Nud::Failed),
+};
+
 #[test]
 fn a_forced_pass(rt: HostRuntime) -> Result<(), Fail> {
-    let alloc = rt.alloc();
-    let waits = Reply::Waits { dropped: 0 };
-    let table = [
-        (own(0, 33, send(11)), 0, waits),
-        (own(0, 65, send(12)), 1, waits),
-        (own(0, 97, send(13)), 2, waits),
-        (own(0, 129, send(14)), 3, Reply::Full { seen: 3 }),
-        (own(5001, 161, send(14)), 15, waits),
-        (own(5001, 32, Op::Show), 16, Reply::Counted(2)),
-    ];
-    let lines = [
-        saw(own(0, 33, send(11)), 0),
-        saw(own(0, 65, send(12)), 1),
-        saw(own(0, 97, send(13)), 2),
-        Line {
-            full: Some(3),
-            ..saw(own(0, 129, send(14)), 3)
-        },
-        timer(1000, 11),
-        timer(1000, 12),
-        timer(1000, 13),
-        timer(2000, 11),
-        timer(2000, 12),
-        timer(2000, 13),
-        timer(3000, 11),
-        timer(3000, 12),
-        timer(3000, 13),
-        collect(5001, 11),
-        collect(5001, 12),
-        saw(own(5001, 161, send(14)), 3),
-        own(5001, 32, Op::Show),
-        timer(6001, 14),
-    ];
-    let mut bucket = Bucket::new(alloc, &SMALL, &host().ok_or("a host")?, 18)?;
-    for (line, place, reply) in table {
-        assert_eq!(rt;
-            entered(alloc, &mut bucket, 0, &line),
-            Some(Ok((place, reply)))
-        );
-    }
-    assert_eq!(rt; advanced(alloc, &mut bucket, 6001), Ok(()));
-    assert_eq!(rt; bucket.lines(), lines.as_slice());
-    assert_eq!(rt; bucket.present(), 2);
-    assert_eq!(rt; bucket.clock(), Moment(6001));
-    assert_eq!(rt;
-        bucket.entry(&ten(13)).map(|entry| entry.nud),
-        Some(Nud::Failed)
-    );
+    let wrong = first_wrong(rt.alloc(), &SMALL, 18, &FORCED_PASS)?;
+    assert_eq!(rt; wrong, None);
     Ok(())
 }
 
-/// Two buckets, at whose lines the other's entries count too.
+/// Whether the row's bucket, the odd one where it begins with `odd`, answers its line as it says.
+fn one_answers_so(
+    alloc: Global,
+    even: &mut Bucket,
+    odd: &mut Bucket,
+    row: &str,
+) -> Result<bool, Fail> {
+    let (which, rest) = cut(row).ok_or("a bucket")?;
+    let (line, answer) = line_and_answer(rest).ok_or("a row")?;
+    let given = if which == "odd" {
+        entered_beside(alloc, odd, even, &line)
+    } else {
+        entered_beside(alloc, even, odd, &line)
+    };
+    Ok(given == Some(answer))
+}
+
+/// The first row whose line isn't answered as it says.
+fn first_other_of_two<'a>(
+    alloc: Global,
+    even: &mut Bucket,
+    odd: &mut Bucket,
+    rows: &'a str,
+) -> Result<Option<&'a str>, Fail> {
+    for row in rows.lines() {
+        if !one_answers_so(alloc, even, odd, row)? {
+            return Ok(Some(row));
+        }
+    }
+    Ok(None)
+}
+
+/// At the lines of each bucket the other's entries count too.
+const BOTH: &str = "\
+odd 0 33 send 11 1 - -|0 waits 0
+even 0 65 send 12 1 - -|0 waits 0
+odd 0 97 send 13 1 - -|1 waits 0
+even 0 129 send 14 1 - -|1 full 3
+";
+
+const EVEN_LINES: &str = "\
+0 65 send 12 1 1 -
+0 129 send 14 1 3 3
+";
+
+const ODD_LINES: &str = "\
+0 33 send 11 1 0 -
+0 97 send 13 1 2 -
+";
+
+/// What isn't as it is to be of the two.
+fn first_wrong_of_two(
+    alloc: Global,
+    even: &mut Bucket,
+    odd: &mut Bucket,
+) -> Result<Option<&'static str>, Fail> {
+    let other = first_other_of_two(alloc, even, odd, BOTH)?;
+    if other.is_some() {
+        return Ok(other);
+    }
+    if !has_rows(alloc, even, EVEN_LINES)? {
+        return Ok(Some("even lines"));
+    }
+    if !has_rows(alloc, odd, ODD_LINES)? {
+        return Ok(Some("odd lines"));
+    }
+    Ok(None)
+}
+
+fn wrong_of_two(alloc: Global) -> Result<Option<&'static str>, Fail> {
+    let mut even = bucket(alloc, &SMALL, 8)?;
+    let mut odd = bucket(alloc, &SMALL, 8)?;
+    first_wrong_of_two(alloc, &mut even, &mut odd)
+}
+
 #[test]
 fn thresholds_count_both_buckets(rt: HostRuntime) -> Result<(), Fail> {
-    let alloc = rt.alloc();
-    let waits = Reply::Waits { dropped: 0 };
-    let full = Reply::Full { seen: 3 };
-    let table = [
-        (false, own(0, 33, send(11)), 0, waits),
-        (true, own(0, 65, send(12)), 0, waits),
-        (false, own(0, 97, send(13)), 1, waits),
-        (true, own(0, 129, send(14)), 1, full),
-    ];
-    let mut even = Bucket::new(alloc, &SMALL, &host().ok_or("a host")?, 8)?;
-    let mut odd = Bucket::new(alloc, &SMALL, &host().ok_or("a host")?, 8)?;
-    for (is_even, line, place, reply) in table {
-        let answer = if is_even {
-            entered(alloc, &mut even, odd.present(), &line)
-        } else {
-            entered(alloc, &mut odd, even.present(), &line)
-        };
-        assert_eq!(rt; answer, Some(Ok((place, reply))));
-    }
-    let lines = [
-        saw(own(0, 65, send(12)), 1),
-        Line {
-            full: Some(3),
-            ..saw(own(0, 129, send(14)), 3)
-        },
-    ];
-    assert_eq!(rt; even.lines(), lines.as_slice());
-    let lines = [saw(own(0, 33, send(11)), 0), saw(own(0, 97, send(13)), 2)];
-    assert_eq!(rt; odd.lines(), lines.as_slice());
+    assert_eq!(rt; wrong_of_two(rt.alloc())?, None);
     Ok(())
 }

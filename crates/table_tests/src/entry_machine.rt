@@ -1,16 +1,13 @@
 ghost use Rattle.std.specs.Prelude.{◌≤◌, IsTrue};
 ghost use Rattle.nud_machine.specs.Asked.{NamesSettable, BringsSized, FiresAtDue};
 
+use crate::rows::{A, B};
 use nb_base::{Host, Key, Mac, Moment, Name, Nud, OpId, Params};
 use nb_queues::WaitQueue;
 use nud_machine::{Act, Acts, Cause, Entry, Event, due, record, step};
 use std::alloc::{AllocError, Global};
 use std::marker::Model;
 use std::test::Fail;
-
-const A: Mac = Mac([0x00, 0x11, 0x22, 0x33, 0x44, 0x55]);
-
-const B: Mac = Mac([0x00, 0x11, 0x22, 0x33, 0x44, 0x66]);
 
 /// A present entry, its queue and the acts of its last step.
 #[derive(Drop)]
@@ -111,8 +108,6 @@ fn listed(acts: &[Act]) -> [Option<Act>; 4] {
 /// A step, and what it leaves of an entry to which packets were sent at 0.
 #[derive(Clone, Copy)]
 struct Row {
-    /// Whether it is the first step of a new entry.
-    is_first: bool,
     at: u64,
     event: Event,
     nud: Nud,
@@ -124,247 +119,294 @@ struct Row {
     acts: [Option<Act>; 4],
 }
 
-/// A new entry that was given the address A by hand.
-fn given(nud: Nud, confirmed: Option<u64>, due: Option<u64>) -> Row {
-    Row {
-        is_first: true,
-        at: 0,
-        event: Event::Admin { mac: Some(A), nud },
-        nud,
+const NO_ACTS: [Option<Act>; 4] = [None, None, None, None];
+
+const SOLICITS: [Option<Act>; 4] = [Some(Act::SolicitGroup), None, None, None];
+
+const BEGINS: [Option<Act>; 4] = [
+    Some(Act::SolicitGroup),
+    Some(Act::Wait(OpId(33))),
+    None,
+    None,
+];
+
+const SECOND_WAITS: [Option<Act>; 4] = [Some(Act::Wait(OpId(65))), None, None, None];
+
+/// A new entry that is given the address A by hand.
+const GIVEN: Row = Row {
+    at: 0,
+    event: Event::Admin {
         mac: Some(A),
-        confirmed,
-        updated: 0,
-        probes: 0,
-        due,
-        acts: [None; 4],
-    }
-}
+        nud: Nud::Stale,
+    },
+    nud: Nud::Stale,
+    mac: Some(A),
+    confirmed: None,
+    updated: 0,
+    probes: 0,
+    due: None,
+    acts: NO_ACTS,
+};
 
-/// A packet to a STALE entry.
-fn doubted() -> Row {
-    let id = OpId(33);
+/// A packet to that entry.
+const DOUBTED: Row = Row {
+    event: Event::Send {
+        id: OpId(33),
+        size: 257,
+    },
+    nud: Nud::Delay,
+    due: Some(5_000),
+    acts: [Some(Act::Transmit(OpId(33), A)), None, None, None],
+    ..GIVEN
+};
+
+/// The first packet to an unknown address.
+const ASKED: Row = Row {
+    at: 0,
+    event: Event::Send {
+        id: OpId(33),
+        size: 257,
+    },
+    nud: Nud::Incomplete,
+    mac: None,
+    confirmed: None,
+    updated: 0,
+    probes: 1,
+    due: Some(1_000),
+    acts: BEGINS,
+};
+
+/// The second.
+const ASKED_AGAIN: Row = Row {
+    event: Event::Send {
+        id: OpId(65),
+        size: 257,
+    },
+    acts: SECOND_WAITS,
+    ..ASKED
+};
+
+/// A timer's step behind others.
+const FIRED: Row = Row {
+    event: Event::Timer,
+    ..GIVEN
+};
+
+const HEARS_A: Event = Event::Arp {
+    mac: A,
+    solicited: true,
+};
+
+const HEARS_B: Event = Event::Arp {
+    mac: B,
+    solicited: true,
+};
+
+const ARP_AT_LOCKTIME_AND_PAST_IT: [Row; 3] = [
+    GIVEN,
     Row {
-        is_first: false,
-        event: Event::Send { id, size: 257 },
-        nud: Nud::Delay,
-        due: Some(5_000),
-        acts: [Some(Act::Transmit(id, A)), None, None, None],
-        ..given(Nud::Stale, None, None)
-    }
-}
-
-/// A packet to an unknown address.
-fn asked(is_first: bool, id: OpId, acts: [Option<Act>; 4]) -> Row {
-    sized(is_first, id, 257, acts)
-}
-
-/// A packet to an unknown address that counts for so many bytes.
-fn sized(is_first: bool, id: OpId, size: u32, acts: [Option<Act>; 4]) -> Row {
-    Row {
-        is_first,
-        at: 0,
-        event: Event::Send { id, size },
-        nud: Nud::Incomplete,
-        mac: None,
-        confirmed: None,
-        updated: 0,
-        probes: 1,
-        due: Some(1_000),
-        acts,
-    }
-}
-
-/// An event behind other steps, and the state, confirmation and due that it leaves.
-fn then_left(at: u64, event: Event, nud: Nud, confirmed: Option<u64>, due: Option<u64>) -> Row {
-    Row {
-        is_first: false,
-        at,
-        event,
-        nud,
-        mac: Some(A),
-        confirmed,
-        updated: at,
-        probes: 0,
-        due,
-        acts: [None; 4],
-    }
-}
-
-fn arp(mac: Mac) -> Event {
-    Event::Arp {
-        mac,
-        solicited: true,
-    }
-}
-
-fn arp_at_locktime_and_past_it() -> [Row; 3] {
-    let first = given(Nud::Stale, None, None);
-    let past = then_left(1_001, arp(B), Nud::Reachable, Some(1_001), Some(31_001));
-    [
-        first,
-        Row {
-            is_first: false,
-            at: 1_000,
-            event: arp(B),
-            ..first
-        },
-        Row {
-            mac: Some(B),
-            ..past
-        },
-    ]
-}
-
-fn unresolved_after_three_probes() -> [Row; 7] {
-    let (first, second, third, fourth) = (OpId(33), OpId(65), OpId(97), OpId(129));
-    let solicits = [Some(Act::SolicitGroup), None, None, None];
-    let begun = asked(
-        true,
-        first,
-        [Some(Act::SolicitGroup), Some(Act::Wait(first)), None, None],
-    );
-    let probed = Row {
-        is_first: false,
         at: 1_000,
+        event: HEARS_B,
+        ..GIVEN
+    },
+    Row {
+        at: 1_001,
+        event: HEARS_B,
+        nud: Nud::Reachable,
+        mac: Some(B),
+        confirmed: Some(1_001),
+        updated: 1_001,
+        due: Some(31_001),
+        ..GIVEN
+    },
+];
+
+const PROBED: Row = Row {
+    at: 1_000,
+    event: Event::Timer,
+    probes: 2,
+    due: Some(2_000),
+    acts: SOLICITS,
+    ..ASKED
+};
+
+const UNRESOLVED_AFTER_THREE_PROBES: [Row; 7] = [
+    ASKED,
+    ASKED_AGAIN,
+    Row {
+        event: Event::Send {
+            id: OpId(97),
+            size: 257,
+        },
+        acts: [Some(Act::Wait(OpId(97))), None, None, None],
+        ..ASKED
+    },
+    Row {
+        event: Event::Send {
+            id: OpId(129),
+            size: 257,
+        },
+        acts: [
+            Some(Act::Drop(OpId(33), Cause::QueueFull)),
+            Some(Act::Wait(OpId(129))),
+            None,
+            None,
+        ],
+        ..ASKED
+    },
+    PROBED,
+    Row {
+        at: 2_000,
+        probes: 3,
+        due: Some(3_000),
+        ..PROBED
+    },
+    Row {
+        at: 3_000,
+        nud: Nud::Failed,
+        updated: 3_000,
+        probes: 3,
+        due: None,
+        acts: [
+            Some(Act::Drop(OpId(65), Cause::Unresolved)),
+            Some(Act::Drop(OpId(97), Cause::Unresolved)),
+            Some(Act::Drop(OpId(129), Cause::Unresolved)),
+            None,
+        ],
+        ..PROBED
+    },
+];
+
+const BYTES_PUSH_OUT_TWO: [Row; 3] = [
+    Row {
+        event: Event::Send {
+            id: OpId(33),
+            size: 756,
+        },
+        ..ASKED
+    },
+    Row {
+        event: Event::Send {
+            id: OpId(65),
+            size: 756,
+        },
+        ..ASKED_AGAIN
+    },
+    Row {
+        event: Event::Send {
+            id: OpId(97),
+            size: 1_756,
+        },
+        acts: [
+            Some(Act::Drop(OpId(33), Cause::QueueFull)),
+            Some(Act::Drop(OpId(65), Cause::QueueFull)),
+            Some(Act::Wait(OpId(97))),
+            None,
+        ],
+        ..ASKED
+    },
+];
+
+const LARGE_PACKET_WAITS_ALONE: [Row; 2] = [
+    Row {
+        event: Event::Send {
+            id: OpId(33),
+            size: 1_756,
+        },
+        ..ASKED
+    },
+    Row {
+        acts: [
+            Some(Act::Drop(OpId(33), Cause::QueueFull)),
+            Some(Act::Wait(OpId(65))),
+            None,
+            None,
+        ],
+        ..ASKED_AGAIN
+    },
+];
+
+const GIVEN_REACHABLE: Row = Row {
+    event: Event::Admin {
+        mac: Some(A),
+        nud: Nud::Reachable,
+    },
+    nud: Nud::Reachable,
+    confirmed: Some(0),
+    due: Some(30_000),
+    ..GIVEN
+};
+
+const REACHABLE_TURNS_STALE: [Row; 3] = [
+    GIVEN_REACHABLE,
+    Row {
+        at: 30_000,
         event: Event::Timer,
-        probes: 2,
-        due: Some(2_000),
-        acts: solicits,
-        ..begun
-    };
-    [
-        begun,
-        asked(false, second, [Some(Act::Wait(second)), None, None, None]),
-        asked(false, third, [Some(Act::Wait(third)), None, None, None]),
-        asked(
-            false,
-            fourth,
-            [
-                Some(Act::Drop(first, Cause::QueueFull)),
-                Some(Act::Wait(fourth)),
-                None,
-                None,
-            ],
-        ),
-        probed,
-        Row {
-            at: 2_000,
-            probes: 3,
-            due: Some(3_000),
-            ..probed
-        },
-        Row {
-            at: 3_000,
-            nud: Nud::Failed,
-            updated: 3_000,
-            probes: 3,
-            due: None,
-            acts: [
-                Some(Act::Drop(second, Cause::Unresolved)),
-                Some(Act::Drop(third, Cause::Unresolved)),
-                Some(Act::Drop(fourth, Cause::Unresolved)),
-                None,
-            ],
-            ..probed
-        },
-    ]
-}
+        due: Some(30_010),
+        ..GIVEN_REACHABLE
+    },
+    Row {
+        at: 30_010,
+        confirmed: Some(0),
+        updated: 30_010,
+        ..FIRED
+    },
+];
 
-fn bytes_push_out_two() -> [Row; 3] {
-    let (first, second, third) = (OpId(33), OpId(65), OpId(97));
-    let begun = [Some(Act::SolicitGroup), Some(Act::Wait(first)), None, None];
-    let pushed_out = [
-        Some(Act::Drop(first, Cause::QueueFull)),
-        Some(Act::Drop(second, Cause::QueueFull)),
-        Some(Act::Wait(third)),
-        None,
-    ];
-    [
-        sized(true, first, 756, begun),
-        sized(
-            false,
-            second,
-            756,
-            [Some(Act::Wait(second)), None, None, None],
-        ),
-        sized(false, third, 1_756, pushed_out),
-    ]
-}
+const DELAY_THEN_UNICAST_PROBE: [Row; 4] = [
+    GIVEN,
+    DOUBTED,
+    Row {
+        at: 5_000,
+        nud: Nud::Probe,
+        updated: 5_000,
+        probes: 1,
+        due: Some(6_000),
+        acts: [Some(Act::SolicitUnicast(A)), None, None, None],
+        ..FIRED
+    },
+    Row {
+        at: 5_500,
+        event: HEARS_A,
+        nud: Nud::Reachable,
+        confirmed: Some(5_500),
+        updated: 5_500,
+        due: Some(35_500),
+        ..GIVEN
+    },
+];
 
-fn large_packet_waits_alone() -> [Row; 2] {
-    let (first, second) = (OpId(33), OpId(65));
-    let begun = [Some(Act::SolicitGroup), Some(Act::Wait(first)), None, None];
-    let pushed_out = [
-        Some(Act::Drop(first, Cause::QueueFull)),
-        Some(Act::Wait(second)),
-        None,
-        None,
-    ];
-    [
-        sized(true, first, 1_756, begun),
-        sized(false, second, 257, pushed_out),
-    ]
-}
+const CONFIRM_IN_DELAY: [Row; 4] = [
+    GIVEN,
+    DOUBTED,
+    Row {
+        at: 4_000,
+        event: Event::Confirm,
+        confirmed: Some(4_000),
+        acts: NO_ACTS,
+        ..DOUBTED
+    },
+    Row {
+        at: 5_000,
+        nud: Nud::Reachable,
+        confirmed: Some(4_000),
+        updated: 5_000,
+        due: Some(34_000),
+        ..FIRED
+    },
+];
 
-fn reachable_turns_stale() -> [Row; 3] {
-    let first = given(Nud::Reachable, Some(0), Some(30_000));
-    [
-        first,
-        Row {
-            is_first: false,
-            at: 30_000,
-            event: Event::Timer,
-            due: Some(30_010),
-            ..first
-        },
-        then_left(30_010, Event::Timer, Nud::Stale, Some(0), None),
-    ]
-}
-
-fn delay_then_unicast_probe() -> [Row; 4] {
-    let probe = then_left(5_000, Event::Timer, Nud::Probe, None, Some(6_000));
-    [
-        given(Nud::Stale, None, None),
-        doubted(),
-        Row {
-            probes: 1,
-            acts: [Some(Act::SolicitUnicast(A)), None, None, None],
-            ..probe
-        },
-        then_left(5_500, arp(A), Nud::Reachable, Some(5_500), Some(35_500)),
-    ]
-}
-
-fn confirm_in_delay() -> [Row; 4] {
-    let confirmed = then_left(4_000, Event::Confirm, Nud::Delay, Some(4_000), Some(5_000));
-    [
-        given(Nud::Stale, None, None),
-        doubted(),
-        Row {
-            updated: 0,
-            ..confirmed
-        },
-        then_left(
-            5_000,
-            Event::Timer,
-            Nud::Reachable,
-            Some(4_000),
-            Some(34_000),
-        ),
-    ]
-}
-
-fn delay_without_unicast_probes() -> [Row; 3] {
-    let failed = then_left(5_000, Event::Timer, Nud::Failed, None, None);
-    [
-        given(Nud::Stale, None, None),
-        doubted(),
-        Row {
-            mac: None,
-            ..failed
-        },
-    ]
-}
+const DELAY_WITHOUT_UNICAST_PROBES: [Row; 3] = [
+    GIVEN,
+    DOUBTED,
+    Row {
+        at: 5_000,
+        nud: Nud::Failed,
+        mac: None,
+        updated: 5_000,
+        ..FIRED
+    },
+];
 
 impl Trial {
     /// Whether the step may be asked for and leaves what it is to leave.
@@ -386,85 +428,118 @@ impl Trial {
     }
 }
 
-#[test]
-fn steps(rt: HostRuntime) -> Result<(), Fail> {
-    let mut trial = Trial::made(rt.alloc(), 3, 800)?;
-    let tables: [&[Row]; 5] = [
-        &arp_at_locktime_and_past_it(),
-        &unresolved_after_three_probes(),
-        &reachable_turns_stale(),
-        &delay_then_unicast_probe(),
-        &confirm_in_delay(),
-    ];
-    for table in tables {
-        for row in table {
-            if row.is_first {
-                trial = Trial::made(rt.alloc(), 3, 800)?;
-            }
-            assert!(rt; trial.takes(row), "at {} ms", row.at);
+/// The place of the first row that an entry with so many unicast probes doesn't take, where so many bytes may wait; `None` where it takes all.
+fn first_untaken(
+    alloc: Global,
+    ucast_solicit: u32,
+    unres_qlen_bytes: u32,
+    rows: &[Row],
+) -> Result<Option<usize>, Fail>
+    requires solicit { ucast_solicit ≤ 10 }
+    requires least { 256 ≤ unres_qlen_bytes }
+    requires most { unres_qlen_bytes ≤ 16_448 }
+{
+    let mut trial = Trial::made(alloc, ucast_solicit, unres_qlen_bytes)?;
+    for (place, row) in rows.iter().enumerate() {
+        if !trial.takes(row) {
+            return Ok(Some(place));
         }
     }
-    let mut trial = Trial::made(rt.alloc(), 0, 800)?;
-    for row in delay_without_unicast_probes() {
-        assert!(rt; trial.takes(&row), "at {} ms", row.at);
+    Ok(None)
+}
+
+#[test]
+fn steps(rt: HostRuntime) -> Result<(), Fail> {
+    let tables: [&[Row]; 5] = [
+        &ARP_AT_LOCKTIME_AND_PAST_IT,
+        &UNRESOLVED_AFTER_THREE_PROBES,
+        &REACHABLE_TURNS_STALE,
+        &DELAY_THEN_UNICAST_PROBE,
+        &CONFIRM_IN_DELAY,
+    ];
+    for table in tables {
+        assert_eq!(rt; first_untaken(rt.alloc(), 3, 800, table)?, None);
     }
+    let untaken = first_untaken(rt.alloc(), 0, 800, &DELAY_WITHOUT_UNICAST_PROBES)?;
+    assert_eq!(rt; untaken, None);
     Ok(())
+}
+
+/// How many packets wait, and how many bytes they count for, behind rows that an entry takes.
+fn waiting(alloc: Global, unres_qlen_bytes: u32, rows: &[Row]) -> Result<Option<(u32, u32)>, Fail>
+    requires least { 256 ≤ unres_qlen_bytes }
+    requires most { unres_qlen_bytes ≤ 16_448 }
+{
+    let mut trial = Trial::made(alloc, 3, unres_qlen_bytes)?;
+    for row in rows {
+        if !trial.takes(row) {
+            return Ok(None);
+        }
+    }
+    Ok(Some((trial.waiting.len(), trial.waiting.total())))
 }
 
 #[test]
 fn bytes_that_wait(rt: HostRuntime) -> Result<(), Fail> {
-    let mut trial = Trial::made(rt.alloc(), 3, 2_000)?;
-    for row in bytes_push_out_two() {
-        assert!(rt; trial.takes(&row));
-    }
-    assert_eq!(rt; (trial.waiting.len(), trial.waiting.total()), (1, 1_756));
-    let mut trial = Trial::made(rt.alloc(), 3, 1_000)?;
-    for row in large_packet_waits_alone() {
-        assert!(rt; trial.takes(&row));
-    }
-    assert_eq!(rt; (trial.waiting.len(), trial.waiting.total()), (1, 257));
+    let left = waiting(rt.alloc(), 2_000, &BYTES_PUSH_OUT_TWO)?;
+    assert_eq!(rt; left, Some((1, 1_756)));
+    let left = waiting(rt.alloc(), 1_000, &LARGE_PACKET_WAITS_ALONE)?;
+    assert_eq!(rt; left, Some((1, 257)));
     Ok(())
 }
 
-#[test]
-fn records_and_dues(rt: HostRuntime) -> Result<(), Fail> {
-    let host = Host {
-        dev: Name::read(b"eth0").ok_or("a name")?,
+impl Trial {
+    /// Whether its record can't be used, and its header has no bytes but zeros.
+    fn is_unusable(&self, host: &Host, key: &Key) -> bool {
+        let published = record(&self.entry, host, key);
+        !published.usable && published.header == [0; 14]
+    }
+
+    /// Whether its record can be used, and has the header.
+    fn has_header(&self, host: &Host, key: &Key, header: &[u8; 14]) -> bool {
+        let published = record(&self.entry, host, key);
+        published.usable && published.header == *header
+    }
+
+    fn due(&self) -> Option<Moment> {
+        due(&self.entry)
+    }
+
+    fn is_gone(&self) -> bool {
+        self.entry == Entry::absent()
+    }
+}
+
+fn host() -> Option<Host> {
+    Some(Host {
+        dev: Name::read(b"eth0")?,
         mac: Mac([2, 0, 0, 0, 0, 2]),
         ip4: Some(0x0a00_0002),
         ip6: None,
-    };
-    let ip4 = Key::V4(0x0a00_0001);
-    let ip6 = Key::V6(0xfe80_0000_0000_0000_0000_0000_0000_0001);
+    })
+}
+
+const IP4: Key = Key::V4(0x0a00_0001);
+
+const IP6: Key = Key::V6(0xfe80_0000_0000_0000_0000_0000_0000_0001);
+
+const IP4_HEADER: [u8; 14] = [0, 0x11, 0x22, 0x33, 0x44, 0x55, 2, 0, 0, 0, 0, 2, 8, 0];
+
+const IP6_HEADER: [u8; 14] = [
+    0, 0x11, 0x22, 0x33, 0x44, 0x55, 2, 0, 0, 0, 0, 2, 0x86, 0xdd,
+];
+
+#[test]
+fn records_and_dues(rt: HostRuntime) -> Result<(), Fail> {
+    let host = host().ok_or("a name")?;
     let mut trial = Trial::made(rt.alloc(), 3, 800)?;
-    let first = record(&trial.entry, &host, &ip4);
-    assert!(rt; !first.usable);
-    assert_eq!(rt; first.header, [0; 14]);
-    assert_eq!(rt; due(&trial.entry), None);
-    let reachable = Event::Admin {
-        mac: Some(A),
-        nud: Nud::Reachable,
-    };
-    assert!(rt; trial.step(Moment(7), &reachable));
-    let headers = [
-        (
-            ip4,
-            [0, 0x11, 0x22, 0x33, 0x44, 0x55, 2, 0, 0, 0, 0, 2, 8, 0],
-        ),
-        (
-            ip6,
-            [
-                0, 0x11, 0x22, 0x33, 0x44, 0x55, 2, 0, 0, 0, 0, 2, 0x86, 0xdd,
-            ],
-        ),
-    ];
-    for (key, header) in headers {
-        let published = record(&trial.entry, &host, &key);
-        assert!(rt; published.usable);
-        assert_eq!(rt; published.header, header);
-    }
-    assert_eq!(rt; due(&trial.entry), Some(Moment(30_007)));
+    assert!(rt; trial.is_unusable(&host, &IP4));
+    assert_eq!(rt; trial.due(), None);
+    assert!(rt; trial.step(Moment(7), &GIVEN_REACHABLE.event));
+    assert!(rt; trial.has_header(&host, &IP4, &IP4_HEADER));
+    assert!(rt; trial.has_header(&host, &IP6, &IP6_HEADER));
+    assert_eq!(rt; trial.due(), Some(Moment(30_007)));
     assert!(rt; trial.step(Moment(8), &Event::Remove));
-    assert_eq!(rt; trial.entry, Entry::absent());
+    assert!(rt; trial.is_gone());
     Ok(())
 }

@@ -1,8 +1,9 @@
 ghost use Rattle.std.specs.Prelude.{◌≡◌, ◌<◌, ◌^◌, length, true};
 ghost use Rattle.nb_journal.specs.Steps.{IsAtDue, IsStep};
 
+use crate::rows::{at_bar, cut, key_of, line_of, nud_of, reply_of, ten};
 use journal_fold::{Fold, Shown, Touch};
-use nb_base::{Key, Line, Moment, Nud, Op, OpId, Params, Reply};
+use nb_base::{Key, Line, Nud, Op, OpId, Params, Reply};
 use nb_journal::is_line_of_run;
 use nud_machine::{Act, Acts, Cause};
 use std::alloc::Global;
@@ -13,43 +14,6 @@ const NARROW: Params = Params {
     unres_qlen_bytes: 800,
     ..Params::DEFAULT
 };
-
-/// 10.0.0.N
-fn ten(n: u8) -> Key {
-    Key::V4(0x0a00_0000 + u32::from(n))
-}
-
-/// An operation's line.
-fn own(at: u64, id: u64, op: Op) -> Line {
-    Line {
-        at: Moment(at),
-        id: Some(OpId(id)),
-        op,
-        seen: None,
-        full: None,
-    }
-}
-
-fn send(at: u64, id: u64, key: u8) -> Line {
-    own(
-        at,
-        id,
-        Op::Send {
-            key: ten(key),
-            len: 1,
-        },
-    )
-}
-
-fn timer(at: u64, key: u8) -> Line {
-    Line {
-        at: Moment(at),
-        id: None,
-        op: Op::Timer { key: ten(key) },
-        seen: None,
-        full: None,
-    }
-}
 
 /// Whether a timer's line stands at its key's due.
 fn is_at_due(fold: &Fold, line: &Line) -> bool
@@ -93,37 +57,6 @@ fn taken(
     Ok(Some(fold.append(line, acts)))
 }
 
-#[test]
-fn unanswered_probes(rt: HostRuntime) -> Result<(), Fail> {
-    let alloc = rt.alloc();
-    let waits = Some(Reply::Waits { dropped: 0 });
-    let pushed_out = Some(Reply::Waits { dropped: 1 });
-    let table = [
-        (send(0, 33, 1), waits),
-        (send(0, 65, 1), waits),
-        (send(0, 97, 1), waits),
-        (send(0, 129, 1), pushed_out),
-        (timer(1000, 1), None),
-        (timer(2000, 1), None),
-        (timer(3000, 1), None),
-        (own(4000, 64, Op::Show), Some(Reply::Counted(1))),
-    ];
-    let mut fold = Fold::new(alloc, &NARROW)?;
-    let mut acts = Acts::new(alloc)?;
-    for (line, reply) in table {
-        assert_eq!(rt; taken(alloc, &mut fold, &line, &mut acts)?, Some(reply));
-    }
-    assert_eq!(rt; fold.present(), 1);
-    assert_eq!(rt; fold.keys(), [ten(1)].as_slice());
-    assert_eq!(rt;
-        fold.find(&ten(1))
-            .map(|kept| (kept.entry.nud, kept.waiting.len())),
-        Some((Nud::Failed, 0))
-    );
-    assert_eq!(rt; fold.find(&ten(2)).is_none(), true);
-    Ok(())
-}
-
 /// The reply to the line, which the fold takes, and its acts behind the others; `None` where it may not.
 fn told(
     alloc: Global,
@@ -138,36 +71,111 @@ fn told(
     Ok(Some(fold.append_with_acts(alloc, line, room, acts)?))
 }
 
+/// The row's line and the reply to it.
+fn line_and_reply(row: &str) -> Option<(Line, Option<Reply>)> {
+    let (line, reply) = at_bar(row)?;
+    Some((line_of(line)?, reply_of(reply)?))
+}
+
+fn fold(alloc: Global) -> Result<Fold, Fail> {
+    Ok(Fold::new(alloc, &NARROW)?)
+}
+
+fn present(fold: &Fold) -> usize {
+    fold.present()
+}
+
+fn has_keys(fold: &Fold, keys: &[Key]) -> bool {
+    fold.keys() == keys
+}
+
+/// The key's state and how many packets wait for it.
+fn known(fold: &Fold, key: Key) -> Option<(Nud, u32)> {
+    fold.find(&key)
+        .map(|kept| (kept.entry.nud, kept.waiting.len()))
+}
+
+/// The first row whose line isn't answered as it says.
+fn first_other_reply<'a>(
+    alloc: Global,
+    fold: &mut Fold,
+    rows: &'a str,
+) -> Result<Option<&'a str>, Fail> {
+    let mut acts = Acts::new(alloc)?;
+    for row in rows.lines() {
+        let (line, reply) = line_and_reply(row).ok_or("a row")?;
+        if taken(alloc, fold, &line, &mut acts)? != Some(reply) {
+            return Ok(Some(row));
+        }
+    }
+    Ok(None)
+}
+
+const UNANSWERED: &str = "\
+0 33 send 1 1 - -|waits 0
+0 65 send 1 1 - -|waits 0
+0 97 send 1 1 - -|waits 0
+0 129 send 1 1 - -|waits 1
+1000 - timer 1 - - -|-
+2000 - timer 1 - - -|-
+3000 - timer 1 - - -|-
+4000 64 show - - - -|counted 1
+";
+
+#[test]
+fn unanswered_probes(rt: HostRuntime) -> Result<(), Fail> {
+    let alloc = rt.alloc();
+    let mut fold = fold(alloc)?;
+    let wrong = first_other_reply(alloc, &mut fold, UNANSWERED)?;
+    assert_eq!(rt; (wrong, present(&fold)), (None, 1));
+    assert!(rt; has_keys(&fold, &[ten(1)]));
+    assert_eq!(rt; known(&fold, ten(1)), Some((Nud::Failed, 0)));
+    assert_eq!(rt; known(&fold, ten(2)), None);
+    Ok(())
+}
+
+/// The first row whose line isn't answered as it says. The acts of the lines go behind the others.
+fn first_untold<'a>(
+    alloc: Global,
+    fold: &mut Fold,
+    acts: &mut Vec<Act>,
+    rows: &'a str,
+) -> Result<Option<&'a str>, Fail> {
+    let mut room = Acts::new(alloc)?;
+    for row in rows.lines() {
+        let (line, reply) = line_and_reply(row).ok_or("a row")?;
+        if told(alloc, fold, &line, &mut room, acts)? != Some(reply) {
+            return Ok(Some(row));
+        }
+    }
+    Ok(None)
+}
+
+const FLUSHED: &str = "\
+0 33 send 7 1 - -|waits 0
+0 65 send 5 1 - -|waits 0
+10 32 flush - - - -|counted 2
+10 64 show - - - -|counted 0
+";
+
+const ACTS: [Act; 6] = [
+    Act::SolicitGroup,
+    Act::Wait(OpId(33)),
+    Act::SolicitGroup,
+    Act::Wait(OpId(65)),
+    Act::Drop(OpId(33), Cause::Removed),
+    Act::Drop(OpId(65), Cause::Removed),
+];
+
 #[test]
 fn flush_goes_by_rank(rt: HostRuntime) -> Result<(), Fail> {
     let alloc = rt.alloc();
-    let waits = Some(Reply::Waits { dropped: 0 });
-    let table = [
-        (send(0, 33, 7), waits),
-        (send(0, 65, 5), waits),
-        (own(10, 32, Op::Flush), Some(Reply::Counted(2))),
-        (own(10, 64, Op::Show), Some(Reply::Counted(0))),
-    ];
-    let mut fold = Fold::new(alloc, &NARROW)?;
-    let mut room = Acts::new(alloc)?;
+    let mut fold = fold(alloc)?;
     let mut acts = Vec::new(alloc);
-    for (line, reply) in table {
-        assert_eq!(rt;
-            told(alloc, &mut fold, &line, &mut room, &mut acts)?,
-            Some(reply)
-        );
-    }
-    let all = [
-        Act::SolicitGroup,
-        Act::Wait(OpId(33)),
-        Act::SolicitGroup,
-        Act::Wait(OpId(65)),
-        Act::Drop(OpId(33), Cause::Removed),
-        Act::Drop(OpId(65), Cause::Removed),
-    ];
-    assert_eq!(rt; acts.as_slice(), all.as_slice());
-    assert_eq!(rt; fold.keys(), [ten(7), ten(5)].as_slice());
-    assert_eq!(rt; fold.present(), 0);
+    let wrong = first_untold(alloc, &mut fold, &mut acts, FLUSHED)?;
+    assert_eq!(rt; (wrong, present(&fold)), (None, 0));
+    assert_eq!(rt; acts.as_slice(), ACTS.as_slice());
+    assert!(rt; has_keys(&fold, &[ten(7), ten(5)]));
     Ok(())
 }
 
@@ -188,49 +196,67 @@ fn touched(
     ]))
 }
 
-/// The key without an address, in the state.
-fn shown(n: u8, nud: Nud) -> Option<Touch> {
-    Some(Touch {
-        key: ten(n),
-        shown: Some(Shown {
-            mac: None,
-            nud,
-            router: false,
-        }),
-    })
+/// A key without an address in a state, or without an entry; none for `-`.
+fn touch_of(text: &str) -> Option<Option<Touch>> {
+    if text == "-" {
+        return Some(None);
+    }
+    let (key, word) = cut(text)?;
+    let key = key_of(key)?;
+    if word == "gone" {
+        return Some(Some(Touch { key, shown: None }));
+    }
+    let shown = Some(Shown {
+        mac: None,
+        nud: nud_of(word)?,
+        router: false,
+    });
+    Some(Some(Touch { key, shown }))
 }
 
-/// The key without an entry.
-fn gone(n: u8) -> Option<Touch> {
-    Some(Touch {
-        key: ten(n),
-        shown: None,
-    })
+/// The row's line, and the keys that it touches.
+fn line_and_touched(row: &str) -> Option<(Line, [Option<Touch>; 3])> {
+    let (line, touched) = at_bar(row)?;
+    let (first, second) = at_bar(touched)?;
+    Some((line_of(line)?, [touch_of(first)?, touch_of(second)?, None]))
 }
+
+/// The first row whose line touches other keys.
+fn first_other_touch<'a>(
+    alloc: Global,
+    fold: &mut Fold,
+    rows: &'a str,
+) -> Result<Option<&'a str>, Fail> {
+    for row in rows.lines() {
+        let (line, keys) = line_and_touched(row).ok_or("a row")?;
+        if touched(alloc, fold, &line)? != Some(keys) {
+            return Ok(Some(row));
+        }
+    }
+    Ok(None)
+}
+
+const TOUCHING: &str = "\
+0 33 send 7 1 - -|7 incomplete|-
+0 65 send 5 1 - -|5 incomplete|-
+0 97 send 7 1 - -|-|-
+1000 - timer 7 - - -|-|-
+1000 - timer 5 - - -|-|-
+2000 - timer 7 - - -|-|-
+2000 - timer 5 - - -|-|-
+3000 - timer 7 - - -|7 failed|-
+3000 - timer 5 - - -|5 failed|-
+4000 129 send 5 1 - -|5 incomplete|-
+4000 32 show - - - -|-|-
+4000 64 flush - - - -|7 gone|5 gone
+4000 96 del 7 - - -|-|-
+";
 
 #[test]
 fn lines_touch_what_they_change(rt: HostRuntime) -> Result<(), Fail> {
     let alloc = rt.alloc();
-    let none = [None, None, None];
-    let table = [
-        (send(0, 33, 7), [shown(7, Nud::Incomplete), None, None]),
-        (send(0, 65, 5), [shown(5, Nud::Incomplete), None, None]),
-        (send(0, 97, 7), none),
-        (timer(1000, 7), none),
-        (timer(1000, 5), none),
-        (timer(2000, 7), none),
-        (timer(2000, 5), none),
-        (timer(3000, 7), [shown(7, Nud::Failed), None, None]),
-        (timer(3000, 5), [shown(5, Nud::Failed), None, None]),
-        (send(4000, 129, 5), [shown(5, Nud::Incomplete), None, None]),
-        (own(4000, 32, Op::Show), none),
-        (own(4000, 64, Op::Flush), [gone(7), gone(5), None]),
-        (own(4000, 96, Op::Del { key: ten(7) }), none),
-    ];
-    let mut fold = Fold::new(alloc, &NARROW)?;
-    for (line, keys) in table {
-        assert_eq!(rt; touched(alloc, &mut fold, &line)?, Some(keys));
-    }
-    assert_eq!(rt; fold.present(), 0);
+    let mut fold = fold(alloc)?;
+    let wrong = first_other_touch(alloc, &mut fold, TOUCHING)?;
+    assert_eq!(rt; (wrong, present(&fold)), (None, 0));
     Ok(())
 }

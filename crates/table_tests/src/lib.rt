@@ -10,4 +10,6 @@ mod folds;
 #[cfg(test)]
 mod journals;
 #[cfg(test)]
+mod rows;
+#[cfg(test)]
 mod waiting_queue;
