@@ -1,4 +1,4 @@
-//! Tests of the base crates: addresses, the outside, codecs, captures, generated input, linked lists, timers and the sequence lock.
+//! Tests of the base crates: addresses, the outside, codecs, captures, what a host hears, generated input, linked lists, timers and the sequence lock.
 #![tactic(auto)]
 
 #[cfg(test)]
@@ -9,6 +9,8 @@ mod captures;
 mod discovery;
 #[cfg(test)]
 mod generated;
+#[cfg(test)]
+mod hearing;
 #[cfg(test)]
 mod link_layer;
 #[cfg(test)]

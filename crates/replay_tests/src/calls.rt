@@ -153,8 +153,8 @@ proxies 0
 end
 ";
 
-const USAGE: &str =
-    "neigh: usage: neigh --script FILE [--capture FILE] [--mode inline|threads] [--window MS] [--buckets N]\n";
+pub const USAGE: &str =
+    "neigh: usage: neigh --script FILE [--capture FILE] [--mode inline|threads] [--window MS] [--buckets N] | neigh --generate NUMBER\n";
 
 // A call of the command over one file `s`, with the call numbers that are to fail.
 struct Call {

@@ -1,13 +1,17 @@
-//! Replays of captures beside scripts: whole reports, the host's line for single frames, files that are refused, and calls that fail.
+//! Replays of captures beside scripts, and of scripts over several buckets: whole reports, the host's line for single frames, files that are refused, and calls that fail.
+mod bucket_thresholds;
+mod buckets;
 mod discovery;
 mod discovery_frames;
 mod frames;
 mod full_proxy_queue;
+mod generated;
 mod hosts;
 mod keys;
 mod line_bounds;
 mod morning;
 mod proxies;
+mod whole_table;
 
 use hex::decode;
 use nb_base::{Bytes, Items};
@@ -201,6 +205,27 @@ fn neighbour_discovery_and_its_frames(rt: HostRuntime) -> Result<(), Fail> {
         discovery_frames::FRAMES,
     )?;
     assert_eq!(rt; wrong, None);
+    Ok(())
+}
+
+#[test]
+fn several_buckets(rt: HostRuntime) -> Result<(), Fail> {
+    let alloc = rt.alloc();
+    assert_eq!(rt; first_wrong(&rt, alloc, &buckets::REPLAYS)?, None);
+    Ok(())
+}
+
+#[test]
+fn thresholds_over_several_buckets(rt: HostRuntime) -> Result<(), Fail> {
+    let alloc = rt.alloc();
+    assert_eq!(rt; first_wrong(&rt, alloc, &bucket_thresholds::REPLAYS)?, None);
+    Ok(())
+}
+
+#[test]
+fn lines_that_see_the_whole_table(rt: HostRuntime) -> Result<(), Fail> {
+    let alloc = rt.alloc();
+    assert_eq!(rt; first_wrong(&rt, alloc, &whole_table::REPLAYS)?, None);
     Ok(())
 }
 

@@ -142,6 +142,18 @@ const ONE_BUCKET: &[(&'static str, usize)] = &[
     ("  entry ", 40),
 ];
 
+const BUCKETS_OF_64: &[(&'static str, usize)] = &[
+    ("bucket 9 lines 11", 1),
+    ("bucket 10 lines 122", 1),
+    ("  seen ", 680),
+    ("  solicit ", 360),
+    (" frame arp tx ", 42),
+    (" - timer ", 1000),
+    (" - sweep ", 640),
+    (" -> counted ", 64),
+    ("  entry ", 40),
+];
+
 /// The first part that another number of lines of the morning's report has, or the report's end if that is another.
 fn first_wrong_part(
     rt: &HostRuntime,
@@ -166,9 +178,21 @@ fn first_wrong_part(
     })
 }
 
+const BESIDE_64: &[&str] = &["--script", "s", "--capture", "c", "--buckets=64"];
+
 #[test]
 fn realistic_morning(rt: HostRuntime) -> Result<(), Fail> {
     let alloc = rt.alloc();
     assert_eq!(rt; first_wrong_part(&rt, alloc, BESIDE, ONE_BUCKET)?, None);
+    Ok(())
+}
+
+#[test]
+fn realistic_morning_over_64_buckets(rt: HostRuntime) -> Result<(), Fail> {
+    let alloc = rt.alloc();
+    assert_eq!(rt;
+        first_wrong_part(&rt, alloc, BESIDE_64, BUCKETS_OF_64)?,
+        None
+    );
     Ok(())
 }
