@@ -80,6 +80,11 @@ fn moments_never_fall(rt: HostRuntime) -> Result<(), Fail> {
     Ok(())
 }
 
+/// The refusal of the file with one record, with another byte at a place.
+fn refusal_of_damage(alloc: Global, place: usize, byte: u8) -> Result<Option<(u8, usize)>, Fail> {
+    Ok(refusal(alloc, &damaged(alloc, place, byte)?))
+}
+
 #[test]
 fn damaged_files(rt: HostRuntime) -> Result<(), Fail> {
     let cases = [
@@ -92,9 +97,14 @@ fn damaged_files(rt: HostRuntime) -> Result<(), Fail> {
         (35, 13, Some((5, 53))),
     ];
     for (place, byte, wanted) in cases {
-        let file = damaged(rt.alloc(), place, byte)?;
-        assert_eq!(rt; refusal(rt.alloc(), &file), wanted, "at {place}");
+        let given = refusal_of_damage(rt.alloc(), place, byte)?;
+        assert_eq!(rt; given, wanted, "at {place}");
     }
+    Ok(())
+}
+
+#[test]
+fn a_record_of_one_byte_too_many(rt: HostRuntime) -> Result<(), Fail> {
     let one_above = with_byte(damaged(rt.alloc(), 33, 4)?, 35, 1);
     assert_eq!(rt; refusal(rt.alloc(), &one_above), Some((6, 24)));
     Ok(())

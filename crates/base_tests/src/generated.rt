@@ -1,4 +1,6 @@
 use generated_input::generate;
+use nb_base::Bytes;
+use std::alloc::Global;
 use std::str;
 use std::test::Fail;
 
@@ -68,40 +70,57 @@ const FILES: [(u64, Digest, Digest); 4] = [
     ),
 ];
 
+/// The capture and the script that are generated from the number.
+fn files_of(alloc: Global, number: u64) -> Result<(Bytes, Bytes), Fail> {
+    generate(alloc, number).map_err(|_| "memory".into())
+}
+
+fn digests_of(alloc: Global, number: u64) -> Result<(Digest, Digest), Fail> {
+    let (capture, script) = files_of(alloc, number)?;
+    Ok((digest_of(capture.as_slice()), digest_of(script.as_slice())))
+}
+
 #[test]
 fn files_of_numbers(rt: HostRuntime) -> Result<(), Fail> {
-    for (number, capture, script) in &FILES {
-        let files = generate(rt.alloc(), *number).map_err(|_| "memory")?;
-        assert_eq!(rt; digest_of(files.0.as_slice()), *capture, "{number}");
-        assert_eq!(rt; digest_of(files.1.as_slice()), *script, "{number}");
+    for (number, capture, script) in FILES {
+        let digests = digests_of(rt.alloc(), number)?;
+        assert_eq!(rt; digests, (capture, script), "{number}");
     }
     Ok(())
 }
 
+/// Whether the capture has these bytes at the place.
+fn has_at(capture: &[u8], place: usize, bytes: &[u8]) -> bool {
+    match capture.get(place..) {
+        Some(rest) => rest.starts_with(bytes),
+        None => false,
+    }
+}
+
 #[test]
 fn the_first_record_is_a_request_of_the_eighth_neighbour(rt: HostRuntime) -> Result<(), Fail> {
-    let files = generate(rt.alloc(), 0).map_err(|_| "memory")?;
-    let capture = files.0.as_slice();
-    let sender = capture.get(68..72).ok_or("a sender")?;
-    let eighth: [u8; 4] = [10, 0, 1, 8];
-    assert_eq!(rt; sender, eighth.as_slice());
-    let destination = capture.get(40..46).ok_or("a destination")?;
-    let everyone = [0xffu8; 6];
-    assert_eq!(rt; destination, everyone.as_slice());
+    let (capture, _script) = files_of(rt.alloc(), 0)?;
+    assert!(rt; has_at(capture.as_slice(), 40, &[0xff; 6]), "to all");
+    assert!(rt;
+        has_at(capture.as_slice(), 68, &[10, 0, 1, 8]),
+        "from the eighth"
+    );
     Ok(())
+}
+
+/// Whether the line of this number, counted from 0, is this.
+fn has_line(script: &[u8], number: usize, line: &str) -> bool {
+    match str::from_utf8(script) {
+        Ok(text) => text.lines().nth(number) == Some(line),
+        Err(_) => false,
+    }
 }
 
 #[test]
 fn the_first_packet_stands_behind_the_head(rt: HostRuntime) -> Result<(), Fail> {
-    let files = generate(rt.alloc(), 0).map_err(|_| "memory")?;
-    let script = str::from_utf8(files.1.as_slice()).map_err(|_| "text")?;
-    let mut lines = script.lines();
-    let host = lines.next().ok_or("a host")?;
-    assert_eq!(rt;
-        host,
-        "host dev eth0 lladdr 02:00:00:00:00:02 inet 10.0.0.2"
-    );
-    let packet = lines.nth(15).ok_or("a packet")?;
-    assert_eq!(rt; packet, "@0 send 1 10.0.1.156 00000000");
+    let (_capture, script) = files_of(rt.alloc(), 0)?;
+    let host = "host dev eth0 lladdr 02:00:00:00:00:02 inet 10.0.0.2";
+    assert!(rt; has_line(script.as_slice(), 0, host));
+    assert!(rt; has_line(script.as_slice(), 16, "@0 send 1 10.0.1.156 00000000"));
     Ok(())
 }

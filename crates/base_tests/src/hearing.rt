@@ -43,7 +43,10 @@ fn bytes_of(alloc: Global, digits: &str) -> Result<Vec<u8>, Fail> {
     if digits == "-" {
         return Ok(Vec::new(alloc));
     }
-    decode(alloc, digits).map_err(|_| "hexadecimal digits".into())
+    match decode(alloc, digits) {
+        Ok(bytes) => Ok(bytes),
+        Err(_) => Err("hexadecimal digits".into()),
+    }
 }
 
 fn bad_discovery(check: u8) -> &'static str {

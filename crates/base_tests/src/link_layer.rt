@@ -10,20 +10,35 @@ const REPLY: [u8; 28] = [
     0, 2,
 ];
 
+const GROUP: Mac = Mac([0x33, 0x33, 0xff, 0, 0, 1]);
+
+/// A frame from the host to that group.
+const FRAME: [u8; 16] = [
+    0x33, 0x33, 0xff, 0, 0, 1, 2, 0, 0, 0, 0, 2, 0x86, 0xdd, 0x60, 0,
+];
+
+fn written_header() -> [u8; 14] {
+    let mut header = [0xee; 14];
+    write_eth(&mut header, &GROUP, &HOST, 0x86dd);
+    header
+}
+
+/// Whether the frame goes from the host to that group, and has this body.
+fn is_to_group(frame: &[u8], body: &[u8]) -> bool {
+    match read_eth(frame) {
+        Some(view) => {
+            view.dst == GROUP && view.src == HOST && view.ethertype == 0x86dd && view.body == body
+        }
+        None => false,
+    }
+}
+
 #[test]
 fn headers_out_and_in(rt: HostRuntime) -> Result<(), Fail> {
-    let group = Mac([0x33, 0x33, 0xff, 0, 0, 1]);
-    let mut header = [0xee; 14];
-    write_eth(&mut header, &group, &HOST, 0x86dd);
-    let bytes = [
-        0x33, 0x33, 0xff, 0, 0, 1, 2, 0, 0, 0, 0, 2, 0x86, 0xdd, 0x60, 0,
-    ];
-    assert_eq!(rt; header.as_slice(), &bytes[..14]);
-    let view = read_eth(&bytes).ok_or("a frame")?;
-    assert_eq!(rt; (view.dst, view.src, view.ethertype), (group, HOST, 0x86dd));
-    assert_eq!(rt; view.body, [0x60, 0].as_slice());
-    assert_eq!(rt; read_eth(&bytes[..14]).is_some(), true);
-    assert_eq!(rt; read_eth(&bytes[..13]).is_none(), true);
+    assert_eq!(rt; written_header().as_slice(), &FRAME[..14]);
+    assert!(rt; is_to_group(&FRAME, &[0x60, 0]));
+    assert!(rt; is_to_group(&FRAME[..14], &[]));
+    assert!(rt; read_eth(&FRAME[..13]).is_none());
     Ok(())
 }
 

@@ -88,18 +88,23 @@ fn node_moves_to_another_list(rt: HostRuntime) -> Result<(), Fail> {
     Ok(())
 }
 
+fn is_in_no_list(links: &Links, node: u32) -> bool {
+    node < links.nodes() && links.list_of(node).is_none() && links.next(node).is_none()
+}
+
 #[test]
 fn further_nodes_are_in_no_list(rt: HostRuntime) -> Result<(), Fail> {
     let mut links = Links::new(rt.alloc(), 3)?;
     for (nodes, usable) in [(0, 0), (4, 4), (2, 4), (6, 6)] {
         links.reserve(nodes)?;
-        assert_eq!(rt; links.nodes(), usable, "after {nodes}");
-        assert_eq!(rt; links.lists(), 3);
+        assert_eq!(rt;
+            (links.nodes(), links.lists()),
+            (usable, 3),
+            "after {nodes}"
+        );
     }
     for node in 0..6 {
-        assert!(rt; node < links.nodes());
-        assert_eq!(rt; links.list_of(node), None, "at {node}");
-        assert_eq!(rt; links.next(node), None, "at {node}");
+        assert!(rt; is_in_no_list(&links, node), "at {node}");
     }
     Ok(())
 }

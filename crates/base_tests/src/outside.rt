@@ -3,7 +3,7 @@ use nb_io::{
     FileInputs, Gate, Inputs, MemoryFile, MemoryInputs, MemorySink, OpenGate, OutSink, ReadFail,
     WriteFault, read_all, write_all,
 };
-use std::alloc::Global;
+use std::alloc::{AllocError, Global};
 use std::fs;
 use std::test::Fail;
 
@@ -84,21 +84,28 @@ const READINGS: [Reading; 8] = [
     },
 ];
 
+/// Inputs of the one file `f`.
+fn inputs_of(alloc: Global, held: &[u8], fails: &[u32]) -> Result<MemoryInputs, AllocError> {
+    let name = Items::from_vec(Vec::from_slice(alloc, b"f")?);
+    let bytes = Items::from_vec(Vec::from_slice(alloc, held)?);
+    let mut files = Vec::new(alloc);
+    files.push(MemoryFile { name, bytes })?;
+    MemoryInputs::new(alloc, files, fails)
+}
+
+/// Whether the read answers as it is to.
+fn reads_so(alloc: Global, inputs: &mut MemoryInputs, case: &Reading) -> bool {
+    match read_all(alloc, inputs, case.name, 6) {
+        Ok(bytes) => case.answer == Ok(bytes.as_slice()),
+        Err(why) => case.answer == Err(why),
+    }
+}
+
 #[test]
 fn reads_whole_files_from_memory(rt: HostRuntime) -> Result<(), Fail> {
     for case in &READINGS {
-        let file = MemoryFile {
-            name: Items::from_vec(Vec::from_slice(rt.alloc(), b"f")?),
-            bytes: Items::from_vec(Vec::from_slice(rt.alloc(), case.held)?),
-        };
-        let files = Vec::from_array(rt.alloc(), [file])?;
-        let mut inputs = MemoryInputs::new(rt.alloc(), files, case.fails)?;
-        let read = read_all(rt.alloc(), &mut inputs, case.name, 6);
-        let answer = match &read {
-            Ok(bytes) => Ok(bytes.as_slice()),
-            Err(why) => Err(*why),
-        };
-        assert_eq!(rt; answer, case.answer, "{}", case.shows);
+        let mut inputs = inputs_of(rt.alloc(), case.held, case.fails)?;
+        assert!(rt; reads_so(rt.alloc(), &mut inputs, case), "{}", case.shows);
         assert_eq!(rt; inputs.faults(case.name), case.faults, "{}", case.shows);
     }
     Ok(())
@@ -190,22 +197,34 @@ fn reads_files_of_the_system(rt: HostRuntime) -> Result<(), Fail> {
     Ok(())
 }
 
+/// Writes two pieces to the file, and says whether both went without a fault.
+fn writes_two(rt: &HostRuntime, path: &str) -> Result<bool, Fail> {
+    let mut sink = OutSink::new(fs::create(rt, path)?);
+    let first = write_all(&mut sink, b"first ").is_ok();
+    let second = write_all(&mut sink, b"second").is_ok();
+    Ok(first && second && sink.faults() == 0)
+}
+
+/// What a sink over the file answers where it is open for reading alone, and its faults then.
+fn writes_to_closed(rt: &HostRuntime, path: &str) -> Result<(Result<(), WriteFault>, u64), Fail> {
+    let mut sink = OutSink::new(fs::open(rt, path)?);
+    let answer = write_all(&mut sink, b"third");
+    Ok((answer, sink.faults()))
+}
+
 #[test]
 fn writes_files_of_the_system(rt: HostRuntime) -> Result<(), Fail> {
     let path = "nb_io_write.tmp";
-    let mut sink = OutSink::new(fs::create(&rt, path)?);
-    for piece in ["first ", "second"] {
-        assert_eq!(rt; write_all(&mut sink, piece.as_bytes()), Ok(()));
-    }
-    assert_eq!(rt; sink.faults(), 0);
+    assert!(rt; writes_two(&rt, path)?);
     assert_eq!(rt; fs::read(&rt, path)?.as_slice(), b"first second".as_slice());
-    // A file that is open for reading alone takes nothing.
-    let mut closed = OutSink::new(fs::open(&rt, path)?);
-    let answer = write_all(&mut closed, b"third");
-    assert_eq!(rt; (answer, closed.faults()), (Err(WriteFault), 1));
+    assert_eq!(rt; writes_to_closed(&rt, path)?, (Err(WriteFault), 1));
     fs::remove_file(&rt, path)?;
+    Ok(())
+}
+
+#[test]
+fn an_open_gate_lets_all_through(_rt: HostRuntime) {
     let gate = OpenGate;
     gate.before(1, 1);
     gate.after(1, 1);
-    Ok(())
 }

@@ -22,18 +22,25 @@ fn next_is(wheel: &Wheel, due: u64, node: u32) -> bool {
     wheel.next() == Some((Moment(due), node))
 }
 
+// Whether this due with its node comes off, and it is the due's moment then.
+fn takes(wheel: &mut Wheel, due: u64, node: u32) -> bool {
+    wheel.take_next() == Some((Moment(due), node)) && wheel.now() == Moment(due)
+}
+
+// Sets the dues of three nodes, and says whether it could.
+fn are_armed(wheel: &mut Wheel) -> bool {
+    arm(wheel, 0, 100) && arm(wheel, 1, 64) && arm(wheel, 2, 100)
+}
+
 #[test]
 fn wheel_least_due_then_least_node(rt: HostRuntime) -> Result<(), Fail> {
     let mut wheel = Wheel::new(rt.alloc())?;
     wheel.reserve(3)?;
-    for (node, due) in [(0, 100), (1, 64), (2, 100)] {
-        assert!(rt; arm(&mut wheel, node, due), "node {node}");
-    }
-    assert!(rt; next_is(&wheel, 64, 1));
-    assert!(rt; wheel.take_next() == Some((Moment(64), 1)));
-    assert!(rt; wheel.now() == Moment(64) && next_is(&wheel, 100, 0));
-    assert!(rt; arm(&mut wheel, 0, 4096) && next_is(&wheel, 100, 2));
-    assert!(rt; cancel(&mut wheel, 2) && !cancel(&mut wheel, 2) && next_is(&wheel, 4096, 0));
+    assert!(rt; are_armed(&mut wheel));
+    assert!(rt; next_is(&wheel, 64, 1) && takes(&mut wheel, 64, 1));
+    assert!(rt; next_is(&wheel, 100, 0) && arm(&mut wheel, 0, 4096));
+    assert!(rt; next_is(&wheel, 100, 2) && cancel(&mut wheel, 2));
+    assert!(rt; next_is(&wheel, 4096, 0) && !cancel(&mut wheel, 2));
     Ok(())
 }
 
