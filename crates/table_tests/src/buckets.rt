@@ -58,16 +58,6 @@ fn entered(
     }
 }
 
-/// What the bucket answers where the other one has entries too.
-fn entered_beside(
-    alloc: Global,
-    bucket: &mut Bucket,
-    other: &Bucket,
-    line: &Line,
-) -> Option<Result<(u32, Reply), BucketFail>> {
-    entered(alloc, bucket, other.present(), line)
-}
-
 /// What the bucket answers where it goes on, and the other buckets have no entry; `None` where it may not go on.
 fn advanced(alloc: Global, bucket: &mut Bucket, to: u64) -> Option<Result<(), BucketFail>> {
     if to > Moment::GREATEST {
@@ -114,24 +104,27 @@ fn place_and_reply(text: &str) -> Option<(u32, Reply)> {
     Some((place.parse().ok()?, reply_of(reply)??))
 }
 
-/// A place and a reply, or what stands behind `refused`.
-fn answer_of(text: &str) -> Option<Result<(u32, Reply), BucketFail>> {
-    match text.strip_prefix("refused ") {
-        Some(refusal) => Some(Err(refusal_of(refusal)?)),
-        None => Some(Ok(place_and_reply(text)?)),
+/// Whether the text says this answer: a place and a reply, or a refusal behind `refused`.
+fn says(text: &str, answer: Result<(u32, Reply), BucketFail>) -> bool {
+    match answer {
+        Ok(given) => place_and_reply(text) == Some(given),
+        Err(why) => match text.strip_prefix("refused ") {
+            Some(refusal) => refusal_of(refusal) == Some(why),
+            None => false,
+        },
     }
 }
 
-/// The row's line and the answer to it.
-fn line_and_answer(row: &str) -> Option<(Line, Result<(u32, Reply), BucketFail>)> {
-    let (line, answer) = at_bar(row)?;
-    Some((line_of(line)?, answer_of(answer)?))
-}
-
-/// Whether the bucket answers the row's line as it says.
-fn answers_so(alloc: Global, bucket: &mut Bucket, row: &str) -> Result<bool, Fail> {
-    let (line, answer) = line_and_answer(row).ok_or("a row")?;
-    Ok(entered(alloc, bucket, 0, &line) == Some(answer))
+/// Whether the bucket answers the row's line as it says, where the other buckets have so many entries.
+fn answers_so(alloc: Global, bucket: &mut Bucket, others: u32, row: &str) -> Result<bool, Fail>
+    requires { others ≤ 2 ^ 28 }
+{
+    let (line, text) = at_bar(row).ok_or("a row")?;
+    let line = line_of(line).ok_or("a line")?;
+    match entered(alloc, bucket, others, &line) {
+        Some(answer) => Ok(says(text, answer)),
+        None => Ok(false),
+    }
 }
 
 /// The first row whose line isn't answered as it says.
@@ -141,7 +134,7 @@ fn first_other_answer<'a>(
     rows: &'a str,
 ) -> Result<Option<&'a str>, Fail> {
     for row in rows.lines() {
-        if !answers_so(alloc, bucket, row)? {
+        if !answers_so(alloc, bucket, 0, row)? {
             return Ok(Some(row));
         }
     }
@@ -286,6 +279,16 @@ fn a_forced_pass(rt: HostRuntime) -> Result<(), Fail> {
     Ok(())
 }
 
+/// Whether the bucket answers the row's line as it says, where the other one has entries too.
+fn answers_beside(
+    alloc: Global,
+    bucket: &mut Bucket,
+    other: &Bucket,
+    row: &str,
+) -> Result<bool, Fail> {
+    answers_so(alloc, bucket, other.present(), row)
+}
+
 /// Whether the row's bucket, the odd one where it begins with `odd`, answers its line as it says.
 fn one_answers_so(
     alloc: Global,
@@ -294,13 +297,11 @@ fn one_answers_so(
     row: &str,
 ) -> Result<bool, Fail> {
     let (which, rest) = cut(row).ok_or("a bucket")?;
-    let (line, answer) = line_and_answer(rest).ok_or("a row")?;
-    let given = if which == "odd" {
-        entered_beside(alloc, odd, even, &line)
+    if which == "odd" {
+        answers_beside(alloc, odd, even, rest)
     } else {
-        entered_beside(alloc, even, odd, &line)
-    };
-    Ok(given == Some(answer))
+        answers_beside(alloc, even, odd, rest)
+    }
 }
 
 /// The first row whose line isn't answered as it says.
@@ -355,10 +356,19 @@ fn first_wrong_of_two(
     Ok(None)
 }
 
+fn small_bucket(alloc: Global) -> Result<Bucket, Fail> {
+    bucket(alloc, &SMALL, 8)
+}
+
+/// What isn't as it is to be of the bucket and another one.
+fn wrong_beside(alloc: Global, even: &mut Bucket) -> Result<Option<&'static str>, Fail> {
+    let mut odd = small_bucket(alloc)?;
+    first_wrong_of_two(alloc, even, &mut odd)
+}
+
 fn wrong_of_two(alloc: Global) -> Result<Option<&'static str>, Fail> {
-    let mut even = bucket(alloc, &SMALL, 8)?;
-    let mut odd = bucket(alloc, &SMALL, 8)?;
-    first_wrong_of_two(alloc, &mut even, &mut odd)
+    let mut even = small_bucket(alloc)?;
+    wrong_beside(alloc, &mut even)
 }
 
 #[test]

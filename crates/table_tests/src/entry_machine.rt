@@ -1,13 +1,19 @@
 ghost use Rattle.std.specs.Prelude.{◌≤◌, IsTrue};
 ghost use Rattle.nud_machine.specs.Asked.{NamesSettable, BringsSized, FiresAtDue};
 
-use crate::rows::{A, B};
-use nb_base::{Host, Key, Mac, Moment, Name, Nud, OpId, Params};
+mod steps;
+
+use nb_base::{Host, Key, Mac, Moment, Name, Nud, Params};
 use nb_queues::WaitQueue;
-use nud_machine::{Act, Acts, Cause, Entry, Event, due, record, step};
+use nud_machine::{Act, Acts, Entry, Event, due, record, step};
 use std::alloc::{AllocError, Global};
 use std::marker::Model;
 use std::test::Fail;
+use steps::{
+    ARP_AT_LOCKTIME_AND_PAST_IT, BYTES_PUSH_OUT_TWO, CONFIRM_IN_DELAY, DELAY_THEN_UNICAST_PROBE,
+    DELAY_WITHOUT_UNICAST_PROBES, GIVEN_REACHABLE, LARGE_PACKET_WAITS_ALONE, REACHABLE_TURNS_STALE,
+    Row, UNRESOLVED_AFTER_THREE_PROBES,
+};
 
 /// A present entry, its queue and the acts of its last step.
 #[derive(Drop)]
@@ -105,309 +111,6 @@ fn listed(acts: &[Act]) -> [Option<Act>; 4] {
     ]
 }
 
-/// A step, and what it leaves of an entry to which packets were sent at 0.
-#[derive(Clone, Copy)]
-struct Row {
-    at: u64,
-    event: Event,
-    nud: Nud,
-    mac: Option<Mac>,
-    confirmed: Option<u64>,
-    updated: u64,
-    probes: u32,
-    due: Option<u64>,
-    acts: [Option<Act>; 4],
-}
-
-const NO_ACTS: [Option<Act>; 4] = [None, None, None, None];
-
-const SOLICITS: [Option<Act>; 4] = [Some(Act::SolicitGroup), None, None, None];
-
-const BEGINS: [Option<Act>; 4] = [
-    Some(Act::SolicitGroup),
-    Some(Act::Wait(OpId(33))),
-    None,
-    None,
-];
-
-const SECOND_WAITS: [Option<Act>; 4] = [Some(Act::Wait(OpId(65))), None, None, None];
-
-/// A new entry that is given the address A by hand.
-const GIVEN: Row = Row {
-    at: 0,
-    event: Event::Admin {
-        mac: Some(A),
-        nud: Nud::Stale,
-    },
-    nud: Nud::Stale,
-    mac: Some(A),
-    confirmed: None,
-    updated: 0,
-    probes: 0,
-    due: None,
-    acts: NO_ACTS,
-};
-
-/// A packet to that entry.
-const DOUBTED: Row = Row {
-    event: Event::Send {
-        id: OpId(33),
-        size: 257,
-    },
-    nud: Nud::Delay,
-    due: Some(5_000),
-    acts: [Some(Act::Transmit(OpId(33), A)), None, None, None],
-    ..GIVEN
-};
-
-/// The first packet to an unknown address.
-const ASKED: Row = Row {
-    at: 0,
-    event: Event::Send {
-        id: OpId(33),
-        size: 257,
-    },
-    nud: Nud::Incomplete,
-    mac: None,
-    confirmed: None,
-    updated: 0,
-    probes: 1,
-    due: Some(1_000),
-    acts: BEGINS,
-};
-
-/// The second.
-const ASKED_AGAIN: Row = Row {
-    event: Event::Send {
-        id: OpId(65),
-        size: 257,
-    },
-    acts: SECOND_WAITS,
-    ..ASKED
-};
-
-/// A timer's step behind others.
-const FIRED: Row = Row {
-    event: Event::Timer,
-    ..GIVEN
-};
-
-const HEARS_A: Event = Event::Arp {
-    mac: A,
-    solicited: true,
-};
-
-const HEARS_B: Event = Event::Arp {
-    mac: B,
-    solicited: true,
-};
-
-const ARP_AT_LOCKTIME_AND_PAST_IT: [Row; 3] = [
-    GIVEN,
-    Row {
-        at: 1_000,
-        event: HEARS_B,
-        ..GIVEN
-    },
-    Row {
-        at: 1_001,
-        event: HEARS_B,
-        nud: Nud::Reachable,
-        mac: Some(B),
-        confirmed: Some(1_001),
-        updated: 1_001,
-        due: Some(31_001),
-        ..GIVEN
-    },
-];
-
-const PROBED: Row = Row {
-    at: 1_000,
-    event: Event::Timer,
-    probes: 2,
-    due: Some(2_000),
-    acts: SOLICITS,
-    ..ASKED
-};
-
-const UNRESOLVED_AFTER_THREE_PROBES: [Row; 7] = [
-    ASKED,
-    ASKED_AGAIN,
-    Row {
-        event: Event::Send {
-            id: OpId(97),
-            size: 257,
-        },
-        acts: [Some(Act::Wait(OpId(97))), None, None, None],
-        ..ASKED
-    },
-    Row {
-        event: Event::Send {
-            id: OpId(129),
-            size: 257,
-        },
-        acts: [
-            Some(Act::Drop(OpId(33), Cause::QueueFull)),
-            Some(Act::Wait(OpId(129))),
-            None,
-            None,
-        ],
-        ..ASKED
-    },
-    PROBED,
-    Row {
-        at: 2_000,
-        probes: 3,
-        due: Some(3_000),
-        ..PROBED
-    },
-    Row {
-        at: 3_000,
-        nud: Nud::Failed,
-        updated: 3_000,
-        probes: 3,
-        due: None,
-        acts: [
-            Some(Act::Drop(OpId(65), Cause::Unresolved)),
-            Some(Act::Drop(OpId(97), Cause::Unresolved)),
-            Some(Act::Drop(OpId(129), Cause::Unresolved)),
-            None,
-        ],
-        ..PROBED
-    },
-];
-
-const BYTES_PUSH_OUT_TWO: [Row; 3] = [
-    Row {
-        event: Event::Send {
-            id: OpId(33),
-            size: 756,
-        },
-        ..ASKED
-    },
-    Row {
-        event: Event::Send {
-            id: OpId(65),
-            size: 756,
-        },
-        ..ASKED_AGAIN
-    },
-    Row {
-        event: Event::Send {
-            id: OpId(97),
-            size: 1_756,
-        },
-        acts: [
-            Some(Act::Drop(OpId(33), Cause::QueueFull)),
-            Some(Act::Drop(OpId(65), Cause::QueueFull)),
-            Some(Act::Wait(OpId(97))),
-            None,
-        ],
-        ..ASKED
-    },
-];
-
-const LARGE_PACKET_WAITS_ALONE: [Row; 2] = [
-    Row {
-        event: Event::Send {
-            id: OpId(33),
-            size: 1_756,
-        },
-        ..ASKED
-    },
-    Row {
-        acts: [
-            Some(Act::Drop(OpId(33), Cause::QueueFull)),
-            Some(Act::Wait(OpId(65))),
-            None,
-            None,
-        ],
-        ..ASKED_AGAIN
-    },
-];
-
-const GIVEN_REACHABLE: Row = Row {
-    event: Event::Admin {
-        mac: Some(A),
-        nud: Nud::Reachable,
-    },
-    nud: Nud::Reachable,
-    confirmed: Some(0),
-    due: Some(30_000),
-    ..GIVEN
-};
-
-const REACHABLE_TURNS_STALE: [Row; 3] = [
-    GIVEN_REACHABLE,
-    Row {
-        at: 30_000,
-        event: Event::Timer,
-        due: Some(30_010),
-        ..GIVEN_REACHABLE
-    },
-    Row {
-        at: 30_010,
-        confirmed: Some(0),
-        updated: 30_010,
-        ..FIRED
-    },
-];
-
-const DELAY_THEN_UNICAST_PROBE: [Row; 4] = [
-    GIVEN,
-    DOUBTED,
-    Row {
-        at: 5_000,
-        nud: Nud::Probe,
-        updated: 5_000,
-        probes: 1,
-        due: Some(6_000),
-        acts: [Some(Act::SolicitUnicast(A)), None, None, None],
-        ..FIRED
-    },
-    Row {
-        at: 5_500,
-        event: HEARS_A,
-        nud: Nud::Reachable,
-        confirmed: Some(5_500),
-        updated: 5_500,
-        due: Some(35_500),
-        ..GIVEN
-    },
-];
-
-const CONFIRM_IN_DELAY: [Row; 4] = [
-    GIVEN,
-    DOUBTED,
-    Row {
-        at: 4_000,
-        event: Event::Confirm,
-        confirmed: Some(4_000),
-        acts: NO_ACTS,
-        ..DOUBTED
-    },
-    Row {
-        at: 5_000,
-        nud: Nud::Reachable,
-        confirmed: Some(4_000),
-        updated: 5_000,
-        due: Some(34_000),
-        ..FIRED
-    },
-];
-
-const DELAY_WITHOUT_UNICAST_PROBES: [Row; 3] = [
-    GIVEN,
-    DOUBTED,
-    Row {
-        at: 5_000,
-        nud: Nud::Failed,
-        mac: None,
-        updated: 5_000,
-        ..FIRED
-    },
-];
-
 impl Trial {
     /// Whether the step may be asked for and leaves what it is to leave.
     fn takes(&mut self, row: &Row) -> bool {
@@ -428,55 +131,99 @@ impl Trial {
     }
 }
 
-/// The place of the first row that an entry with so many unicast probes doesn't take, where so many bytes may wait; `None` where it takes all.
+/// The place of the first row that the entry doesn't take; `None` where it takes all.
+fn first_untaken_by(trial: &mut Trial, rows: &[Row]) -> Option<usize> {
+    for (place, row) in rows.iter().enumerate() {
+        if !trial.takes(row) {
+            return Some(place);
+        }
+    }
+    None
+}
+
+/// The same of an entry with so many unicast probes, where so many bytes may wait.
 fn first_untaken(
     alloc: Global,
     ucast_solicit: u32,
     unres_qlen_bytes: u32,
     rows: &[Row],
-) -> Result<Option<usize>, Fail>
+) -> Result<Option<usize>, AllocError>
     requires solicit { ucast_solicit ≤ 10 }
     requires least { 256 ≤ unres_qlen_bytes }
     requires most { unres_qlen_bytes ≤ 16_448 }
 {
     let mut trial = Trial::made(alloc, ucast_solicit, unres_qlen_bytes)?;
-    for (place, row) in rows.iter().enumerate() {
-        if !trial.takes(row) {
-            return Ok(Some(place));
-        }
-    }
-    Ok(None)
+    Ok(first_untaken_by(&mut trial, rows))
+}
+
+/// The same with three unicast probes, where 800 bytes may wait.
+fn first_untaken_of(alloc: Global, rows: &[Row]) -> Result<Option<usize>, AllocError> {
+    first_untaken(alloc, 3, 800, rows)
 }
 
 #[test]
-fn steps(rt: HostRuntime) -> Result<(), Fail> {
-    let tables: [&[Row]; 5] = [
-        &ARP_AT_LOCKTIME_AND_PAST_IT,
-        &UNRESOLVED_AFTER_THREE_PROBES,
-        &REACHABLE_TURNS_STALE,
-        &DELAY_THEN_UNICAST_PROBE,
-        &CONFIRM_IN_DELAY,
-    ];
-    for table in tables {
-        assert_eq!(rt; first_untaken(rt.alloc(), 3, 800, table)?, None);
-    }
+fn arp_at_locktime_and_past_it(rt: HostRuntime) -> Result<(), Fail> {
+    let untaken = first_untaken_of(rt.alloc(), &ARP_AT_LOCKTIME_AND_PAST_IT)?;
+    assert_eq!(rt; untaken, None);
+    Ok(())
+}
+
+#[test]
+fn unresolved_after_three_probes(rt: HostRuntime) -> Result<(), Fail> {
+    let untaken = first_untaken_of(rt.alloc(), &UNRESOLVED_AFTER_THREE_PROBES)?;
+    assert_eq!(rt; untaken, None);
+    Ok(())
+}
+
+#[test]
+fn reachable_turns_stale(rt: HostRuntime) -> Result<(), Fail> {
+    let untaken = first_untaken_of(rt.alloc(), &REACHABLE_TURNS_STALE)?;
+    assert_eq!(rt; untaken, None);
+    Ok(())
+}
+
+#[test]
+fn delay_then_unicast_probe(rt: HostRuntime) -> Result<(), Fail> {
+    let untaken = first_untaken_of(rt.alloc(), &DELAY_THEN_UNICAST_PROBE)?;
+    assert_eq!(rt; untaken, None);
+    Ok(())
+}
+
+#[test]
+fn confirm_in_delay(rt: HostRuntime) -> Result<(), Fail> {
+    let untaken = first_untaken_of(rt.alloc(), &CONFIRM_IN_DELAY)?;
+    assert_eq!(rt; untaken, None);
+    Ok(())
+}
+
+#[test]
+fn delay_without_unicast_probes(rt: HostRuntime) -> Result<(), Fail> {
     let untaken = first_untaken(rt.alloc(), 0, 800, &DELAY_WITHOUT_UNICAST_PROBES)?;
     assert_eq!(rt; untaken, None);
     Ok(())
 }
 
-/// How many packets wait, and how many bytes they count for, behind rows that an entry takes.
-fn waiting(alloc: Global, unres_qlen_bytes: u32, rows: &[Row]) -> Result<Option<(u32, u32)>, Fail>
+impl Trial {
+    /// How many packets wait, and how many bytes they count for, behind rows that the entry takes.
+    fn waits_behind(&mut self, rows: &[Row]) -> Option<(u32, u32)> {
+        match first_untaken_by(self, rows) {
+            None => Some((self.waiting.len(), self.waiting.total())),
+            Some(_) => None,
+        }
+    }
+}
+
+/// The same of an entry for which so many bytes may wait.
+fn waiting(
+    alloc: Global,
+    unres_qlen_bytes: u32,
+    rows: &[Row],
+) -> Result<Option<(u32, u32)>, AllocError>
     requires least { 256 ≤ unres_qlen_bytes }
     requires most { unres_qlen_bytes ≤ 16_448 }
 {
     let mut trial = Trial::made(alloc, 3, unres_qlen_bytes)?;
-    for row in rows {
-        if !trial.takes(row) {
-            return Ok(None);
-        }
-    }
-    Ok(Some((trial.waiting.len(), trial.waiting.total())))
+    Ok(trial.waits_behind(rows))
 }
 
 #[test]
@@ -505,8 +252,14 @@ impl Trial {
         due(&self.entry)
     }
 
-    fn is_gone(&self) -> bool {
-        self.entry == Entry::absent()
+    /// Whether it takes the address A at 7 ms.
+    fn is_given(&mut self) -> bool {
+        self.step(Moment(7), &GIVEN_REACHABLE.event)
+    }
+
+    /// Whether it is removed at 8 ms, and nothing of it stays.
+    fn is_removed(&mut self) -> bool {
+        self.step(Moment(8), &Event::Remove) && self.entry == Entry::absent()
     }
 }
 
@@ -530,16 +283,21 @@ const IP6_HEADER: [u8; 14] = [
 ];
 
 #[test]
-fn records_and_dues(rt: HostRuntime) -> Result<(), Fail> {
+fn records(rt: HostRuntime) -> Result<(), Fail> {
     let host = host().ok_or("a name")?;
     let mut trial = Trial::made(rt.alloc(), 3, 800)?;
     assert!(rt; trial.is_unusable(&host, &IP4));
-    assert_eq!(rt; trial.due(), None);
-    assert!(rt; trial.step(Moment(7), &GIVEN_REACHABLE.event));
-    assert!(rt; trial.has_header(&host, &IP4, &IP4_HEADER));
+    assert!(rt; trial.is_given() && trial.has_header(&host, &IP4, &IP4_HEADER));
     assert!(rt; trial.has_header(&host, &IP6, &IP6_HEADER));
+    Ok(())
+}
+
+#[test]
+fn dues_and_removal(rt: HostRuntime) -> Result<(), Fail> {
+    let mut trial = Trial::made(rt.alloc(), 3, 800)?;
+    assert_eq!(rt; trial.due(), None);
+    assert!(rt; trial.is_given());
     assert_eq!(rt; trial.due(), Some(Moment(30_007)));
-    assert!(rt; trial.step(Moment(8), &Event::Remove));
-    assert!(rt; trial.is_gone());
+    assert!(rt; trial.is_removed());
     Ok(())
 }

@@ -122,15 +122,20 @@ const UNANSWERED: &str = "\
 4000 64 show - - - -|counted 1
 ";
 
+/// Whether 10.0.0.1 is the one entry, and has failed.
+fn has_failed_alone(fold: &Fold) -> bool {
+    present(fold) == 1
+        && has_keys(fold, &[ten(1)])
+        && known(fold, ten(1)) == Some((Nud::Failed, 0))
+        && known(fold, ten(2)).is_none()
+}
+
 #[test]
 fn unanswered_probes(rt: HostRuntime) -> Result<(), Fail> {
-    let alloc = rt.alloc();
-    let mut fold = fold(alloc)?;
-    let wrong = first_other_reply(alloc, &mut fold, UNANSWERED)?;
-    assert_eq!(rt; (wrong, present(&fold)), (None, 1));
-    assert!(rt; has_keys(&fold, &[ten(1)]));
-    assert_eq!(rt; known(&fold, ten(1)), Some((Nud::Failed, 0)));
-    assert_eq!(rt; known(&fold, ten(2)), None);
+    let mut fold = fold(rt.alloc())?;
+    let wrong = first_other_reply(rt.alloc(), &mut fold, UNANSWERED)?;
+    assert_eq!(rt; wrong, None);
+    assert!(rt; has_failed_alone(&fold));
     Ok(())
 }
 
@@ -214,11 +219,18 @@ fn touch_of(text: &str) -> Option<Option<Touch>> {
     Some(Some(Touch { key, shown }))
 }
 
-/// The row's line, and the keys that it touches.
-fn line_and_touched(row: &str) -> Option<(Line, [Option<Touch>; 3])> {
-    let (line, touched) = at_bar(row)?;
-    let (first, second) = at_bar(touched)?;
-    Some((line_of(line)?, [touch_of(first)?, touch_of(second)?, None]))
+/// The keys that the text says.
+fn keys_touched(text: &str) -> Option<[Option<Touch>; 3]> {
+    let (first, second) = at_bar(text)?;
+    Some([touch_of(first)?, touch_of(second)?, None])
+}
+
+/// Whether the row's line touches its keys.
+fn touches_so(alloc: Global, fold: &mut Fold, row: &str) -> Result<bool, Fail> {
+    let (line, text) = at_bar(row).ok_or("a row")?;
+    let line = line_of(line).ok_or("a line")?;
+    let keys = keys_touched(text).ok_or("keys")?;
+    Ok(touched(alloc, fold, &line)? == Some(keys))
 }
 
 /// The first row whose line touches other keys.
@@ -228,8 +240,7 @@ fn first_other_touch<'a>(
     rows: &'a str,
 ) -> Result<Option<&'a str>, Fail> {
     for row in rows.lines() {
-        let (line, keys) = line_and_touched(row).ok_or("a row")?;
-        if touched(alloc, fold, &line)? != Some(keys) {
+        if !touches_so(alloc, fold, row)? {
             return Ok(Some(row));
         }
     }
@@ -254,9 +265,9 @@ const TOUCHING: &str = "\
 
 #[test]
 fn lines_touch_what_they_change(rt: HostRuntime) -> Result<(), Fail> {
-    let alloc = rt.alloc();
-    let mut fold = fold(alloc)?;
-    let wrong = first_other_touch(alloc, &mut fold, TOUCHING)?;
-    assert_eq!(rt; (wrong, present(&fold)), (None, 0));
+    let mut fold = fold(rt.alloc())?;
+    let wrong = first_other_touch(rt.alloc(), &mut fold, TOUCHING)?;
+    assert_eq!(rt; wrong, None);
+    assert_eq!(rt; present(&fold), 0);
     Ok(())
 }

@@ -1,175 +1,11 @@
 ghost use Rattle.std.specs.Prelude.{◌≤◌};
-ghost use Rattle.nb_base.specs.Params.{InRange};
 
-use crate::rows::{A, B, at_bar, cut, line_of, lines_of, reply_of, ten};
-use journal_check::{is_evaluable, is_lawful, reply_at, state_at};
-use nb_base::{Line, Mac, Moment, Nud, Params, Reply};
-use nb_journal::is_line_of_run;
-use std::alloc::{AllocError, Global};
+use crate::rows::lines_of;
+use crate::worked::{Worked, answer, are_lawful, first_wrong};
+use journal_check::is_lawful;
+use nb_base::{Moment, Params, Reply};
+use std::alloc::Global;
 use std::test::Fail;
-
-/// A journal that is lawful at the clock, and what is to be found in it.
-#[derive(Clone, Copy)]
-struct Worked {
-    lines: &'static str,
-    clock: u64,
-    /// Changes that each leave it unlawful: the place from which lines are left out, how many, a bar, and the lines that are put there, with a bar between them.
-    damaged: &'static str,
-    /// Places, each with the reply to the line there.
-    answers: &'static str,
-}
-
-/// The place, how many lines are left out from it on, and those that are put there.
-fn edit_of(edit: &str) -> Option<(usize, usize, &str)> {
-    let (numbers, put) = at_bar(edit)?;
-    let (place, gone) = cut(numbers)?;
-    Some((place.parse().ok()?, gone.parse().ok()?, put))
-}
-
-/// Appends the lines that stand between bars.
-fn put_lines(lines: &mut Vec<Line>, put: &str) -> Result<(), Fail> {
-    if put.is_empty() {
-        return Ok(());
-    }
-    let (first, second) = at_bar(put).unwrap_or((put, ""));
-    lines.push(line_of(first).ok_or("a line")?)?;
-    if !second.is_empty() {
-        lines.push(line_of(second).ok_or("a line")?)?;
-    }
-    Ok(())
-}
-
-/// The lines with the change.
-fn edited(alloc: Global, lines: &[Line], edit: &str) -> Result<Vec<Line>, Fail> {
-    let (place, gone, put) = edit_of(edit).ok_or("a change")?;
-    let before = lines.get(..place).ok_or("a place")?;
-    let behind = lines.get(place.saturating_add(gone)..).ok_or("lines")?;
-    let mut after = Vec::from_slice(alloc, before)?;
-    put_lines(&mut after, put)?;
-    after.extend_from_slice(behind)?;
-    Ok(after)
-}
-
-/// The first change that doesn't leave the lines unlawful.
-fn first_harmless<'a>(
-    alloc: Global,
-    params: &Params,
-    lines: &[Line],
-    clock: u64,
-    damaged: &'a str,
-) -> Result<Option<&'a str>, Fail>
-    requires { InRange params.now }
-{
-    for edit in damaged.lines() {
-        let after = edited(alloc, lines, edit)?;
-        if is_lawful(alloc, params, &after, Moment(clock))? != Some(false) {
-            return Ok(Some(edit));
-        }
-    }
-    Ok(None)
-}
-
-/// The reply to the line behind the others, where those can be evaluated.
-fn answer_behind(
-    alloc: Global,
-    params: &Params,
-    past: &[Line],
-    line: &Line,
-) -> Result<Option<Reply>, AllocError>
-    requires { InRange params.now }
-{
-    if is_evaluable(alloc, params, past)? && is_line_of_run(line) {
-        reply_at(alloc, params, past, line)
-    } else {
-        Ok(None)
-    }
-}
-
-/// The reply to the line at the place, where the lines before it can be evaluated.
-fn answer(
-    alloc: Global,
-    params: &Params,
-    lines: &[Line],
-    place: usize,
-) -> Result<Option<Reply>, Fail>
-    requires { InRange params.now }
-{
-    let past = lines.get(..place).ok_or("lines")?;
-    let line = lines.get(place).ok_or("a line")?;
-    Ok(answer_behind(alloc, params, past, line)?)
-}
-
-fn place_and_reply(row: &str) -> Option<(usize, Option<Reply>)> {
-    let (place, reply) = cut(row)?;
-    Some((place.parse().ok()?, reply_of(reply)?))
-}
-
-/// The first place at which another reply is given.
-fn first_other_answer<'a>(
-    alloc: Global,
-    params: &Params,
-    lines: &[Line],
-    answers: &'a str,
-) -> Result<Option<&'a str>, Fail>
-    requires { InRange params.now }
-{
-    for row in answers.lines() {
-        let (place, reply) = place_and_reply(row).ok_or("an answer")?;
-        if answer(alloc, params, lines, place)? != reply {
-            return Ok(Some(row));
-        }
-    }
-    Ok(None)
-}
-
-/// The first thing of the journal that isn't found in it.
-fn first_wrong(
-    alloc: Global,
-    params: &Params,
-    worked: &Worked,
-) -> Result<Option<&'static str>, Fail>
-    requires { InRange params.now }
-{
-    let lines = lines_of(alloc, worked.lines)?;
-    if is_lawful(alloc, params, &lines, Moment(worked.clock))? != Some(true) {
-        return Ok(Some("lawful"));
-    }
-    let harmless = first_harmless(alloc, params, &lines, worked.clock, worked.damaged)?;
-    if harmless.is_some() {
-        return Ok(harmless);
-    }
-    first_other_answer(alloc, params, &lines, worked.answers)
-}
-
-/// The state and the address of 10.0.0.1 behind so many of the journal's lines, where its entry is present.
-fn known(
-    alloc: Global,
-    params: &Params,
-    worked: &Worked,
-    count: usize,
-) -> Result<Option<(Nud, Option<Mac>)>, Fail>
-    requires { InRange params.now }
-{
-    let lines = lines_of(alloc, worked.lines)?;
-    let lines = lines.get(..count).ok_or("lines")?;
-    if !is_evaluable(alloc, params, lines)? {
-        return Ok(None);
-    }
-    let kept = state_at(alloc, params, lines, &ten(1))?;
-    if kept.entry.present {
-        Ok(Some((kept.entry.nud, kept.entry.mac)))
-    } else {
-        Ok(None)
-    }
-}
-
-/// Whether the rows are lawful at the clock, where they can be lines of a run.
-fn are_lawful(alloc: Global, params: &Params, rows: &str, clock: u64) -> Result<Option<bool>, Fail>
-    requires { InRange params.now }
-{
-    let lines = lines_of(alloc, rows)?;
-    Ok(is_lawful(alloc, params, &lines, Moment(clock))?)
-}
 
 const UNRESOLVED: Worked = Worked {
     lines: "\
@@ -199,18 +35,26 @@ const UNRESOLVED: Worked = Worked {
 3 waits 1
 7 counted 1
 ",
+    known: "8 failed -\n",
+};
+
+/// 800 bytes may wait: three packets of one byte.
+const NARROW: Params = Params {
+    unres_qlen_bytes: 800,
+    ..Params::DEFAULT
 };
 
 #[test]
 fn unresolved_after_three_probes(rt: HostRuntime) -> Result<(), Fail> {
-    let alloc = rt.alloc();
-    let params = Params {
-        unres_qlen_bytes: 800,
-        ..Params::DEFAULT
-    };
-    let early = are_lawful(alloc, &params, UNRESOLVED.lines, 3999)?;
-    assert_eq!(rt; early, Some(false));
-    assert_eq!(rt; first_wrong(alloc, &params, &UNRESOLVED)?, None);
+    let wrong = first_wrong(rt.alloc(), &NARROW, &UNRESOLVED)?;
+    assert_eq!(rt; wrong, None);
+    Ok(())
+}
+
+#[test]
+fn lines_later_than_the_clock(rt: HostRuntime) -> Result<(), Fail> {
+    let lawful = are_lawful(rt.alloc(), &NARROW, UNRESOLVED.lines, 3999)?;
+    assert_eq!(rt; lawful, Some(false));
     Ok(())
 }
 
@@ -285,6 +129,7 @@ const TIES: Worked = Worked {
 3 1|
 ",
     answers: "",
+    known: "",
 };
 
 #[test]
@@ -331,6 +176,7 @@ const FORCED_PASS: Worked = Worked {
 15 waits 0
 14 -
 ",
+    known: "",
 };
 
 #[test]
@@ -364,15 +210,13 @@ const TURNS_STALE: Worked = Worked {
 2 1|30000 - sweep - - 0 -
 ",
     answers: "4 counted 1\n",
+    known: "5 stale a\n",
 };
 
 #[test]
 fn reachable_turns_stale(rt: HostRuntime) -> Result<(), Fail> {
-    let alloc = rt.alloc();
-    let params = Params::DEFAULT;
-    assert_eq!(rt; first_wrong(alloc, &params, &TURNS_STALE)?, None);
-    let left = known(alloc, &params, &TURNS_STALE, 5)?;
-    assert_eq!(rt; left, Some((Nud::Stale, Some(A))));
+    let wrong = first_wrong(rt.alloc(), &Params::DEFAULT, &TURNS_STALE)?;
+    assert_eq!(rt; wrong, None);
     Ok(())
 }
 
@@ -392,19 +236,19 @@ const THIRD_SWEEP: Worked = Worked {
 4 0|90000 - sweep - - 0 -
 ",
     answers: "4 counted 0\n",
+    known: "\
+3 stale a
+5 -
+",
 };
 
 #[test]
 fn third_sweep_removes(rt: HostRuntime) -> Result<(), Fail> {
-    let alloc = rt.alloc();
     let params = Params {
         gc_thresh1: 1,
         ..Params::DEFAULT
     };
-    assert_eq!(rt; first_wrong(alloc, &params, &THIRD_SWEEP)?, None);
-    for (count, left) in [(3, Some((Nud::Stale, Some(A)))), (5, None)] {
-        assert_eq!(rt; known(alloc, &params, &THIRD_SWEEP, count)?, left);
-    }
+    assert_eq!(rt; first_wrong(rt.alloc(), &params, &THIRD_SWEEP)?, None);
     Ok(())
 }
 
@@ -456,19 +300,16 @@ const LOCKTIME: Worked = Worked {
     clock: 1001,
     damaged: "",
     answers: "1 done\n",
+    known: "\
+2 stale a
+3 reachable b
+",
 };
 
 #[test]
 fn locktime_holds_the_address(rt: HostRuntime) -> Result<(), Fail> {
-    let alloc = rt.alloc();
-    let params = Params::DEFAULT;
-    assert_eq!(rt; first_wrong(alloc, &params, &LOCKTIME)?, None);
-    for (count, left) in [
-        (2, Some((Nud::Stale, Some(A)))),
-        (3, Some((Nud::Reachable, Some(B)))),
-    ] {
-        assert_eq!(rt; known(alloc, &params, &LOCKTIME, count)?, left);
-    }
+    let wrong = first_wrong(rt.alloc(), &Params::DEFAULT, &LOCKTIME)?;
+    assert_eq!(rt; wrong, None);
     Ok(())
 }
 
@@ -480,21 +321,28 @@ const STAYS: Worked = Worked {
     clock: 6000,
     damaged: "1 0|6000 - collect 1 - - -\n",
     answers: "",
+    known: "2 permanent a\n",
 };
-
-/// No line of a run adds an entry in this state.
-const NO_STATE: &str = "0 32 add 1 failed 0 -\n";
 
 #[test]
 fn a_permanent_entry_stays(rt: HostRuntime) -> Result<(), Fail> {
-    let alloc = rt.alloc();
     let params = Params {
         gc_thresh2: 1,
         gc_thresh3: 1,
         ..Params::DEFAULT
     };
-    assert_eq!(rt; first_wrong(alloc, &params, &STAYS)?, None);
-    assert_eq!(rt; are_lawful(alloc, &params, "", 0)?, Some(true));
-    assert_eq!(rt; are_lawful(alloc, &params, NO_STATE, 0)?, None);
+    assert_eq!(rt; first_wrong(rt.alloc(), &params, &STAYS)?, None);
+    Ok(())
+}
+
+/// No line of a run adds an entry in this state.
+const NO_STATE: &str = "0 32 add 1 failed 0 -\n";
+
+#[test]
+fn no_lines_and_none_of_a_run(rt: HostRuntime) -> Result<(), Fail> {
+    let alloc = rt.alloc();
+    for (rows, lawful) in [("", Some(true)), (NO_STATE, None)] {
+        assert_eq!(rt; are_lawful(alloc, &Params::DEFAULT, rows, 0)?, lawful);
+    }
     Ok(())
 }

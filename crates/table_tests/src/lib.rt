@@ -13,3 +13,5 @@ mod journals;
 mod rows;
 #[cfg(test)]
 mod waiting_queue;
+#[cfg(test)]
+mod worked;

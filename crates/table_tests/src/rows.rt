@@ -57,6 +57,19 @@ pub fn nud_of(word: &str) -> Option<Nud> {
     }
 }
 
+/// The link address that the word names, or none for `-`.
+pub fn mac_of(word: &str) -> Option<Option<Mac>> {
+    if word == "-" {
+        Some(None)
+    } else if word == "a" {
+        Some(Some(A))
+    } else if word == "b" {
+        Some(Some(B))
+    } else {
+        None
+    }
+}
+
 /// What is asked of the whole table.
 fn table_op(word: &str) -> Option<Op> {
     if word == "show" {
@@ -120,13 +133,8 @@ fn op_in(text: &str) -> Option<(Op, &str)> {
     Some((op_of(word, key, beside)?, rest))
 }
 
-/// A line, in seven words: its moment, its id, what is asked, the N of its key 10.0.0.N, what is said beside the key, what it saw, and
-/// the number of entries that were in its way; `-` where there is none.
-pub fn line_of(row: &str) -> Option<Line> {
-    let (at, rest) = cut(row)?;
-    let (id, rest) = cut(rest)?;
-    let (op, rest) = op_in(rest)?;
-    let (seen, full) = cut(rest)?;
+/// A line of these words and this operation.
+fn line(at: &str, id: &str, op: Op, seen: &str, full: &str) -> Option<Line> {
     Some(Line {
         at: Moment(number(at)?),
         id: id_of(id)?,
@@ -134,6 +142,16 @@ pub fn line_of(row: &str) -> Option<Line> {
         seen: count_of(seen)?,
         full: count_of(full)?,
     })
+}
+
+/// A line, in seven words: its moment, its id, what is asked, the N of its key 10.0.0.N, what is said beside the key, what it saw, and
+/// the number of entries that were in its way; `-` where there is none.
+pub fn line_of(row: &str) -> Option<Line> {
+    let (at, rest) = cut(row)?;
+    let (id, rest) = cut(rest)?;
+    let (op, rest) = op_in(rest)?;
+    let (seen, full) = cut(rest)?;
+    line(at, id, op, seen, full)
 }
 
 /// The lines of the rows.
