@@ -1,13 +1,15 @@
+use crate::command::{
+    Ending, HOST, NAMED, TEN_BYTES, USAGE, ends, ends_into, ends_without_words, joined, report_of,
+    script_alone,
+};
 use nb_base::{Bytes, Items};
-use nb_io::{MemoryFile, MemoryInputs, MemorySink, OpenGate};
-use neigh_replay::{NoWords, answer, run};
+use nb_io::MemorySink;
+use neigh_replay::NoWords;
 use std::alloc::{AllocError, Global};
 use std::fmt::Write;
 use std::test::Fail;
 
 const SHOW: &str = "host dev eth0 lladdr 02:00:00:00:00:02 inet 10.0.0.2\n@0 neigh show\n";
-
-const HOST: &str = "host dev eth0 lladdr 02:00:00:00:00:02 inet 10.0.0.2\n";
 
 const PACKET: &str =
     "host dev eth0 lladdr 02:00:00:00:00:02 inet 10.0.0.2\n@0 neigh add 10.0.0.1 dev eth0 lladdr 00:11:22:33:44:55 nud permanent\n@5 send 1 10.0.0.1 4500\n";
@@ -153,30 +155,23 @@ proxies 0
 end
 ";
 
-pub const USAGE: &str =
-    "neigh: usage: neigh --script FILE [--capture FILE] [--mode inline|threads] [--window MS] [--buckets N] | neigh --generate NUMBER\n";
-
-// A call of the command over one file `s`, with the call numbers that are to fail.
+/// A call of the command over one file `s`, with the number of the call of its inputs that is to fail, or 0.
 struct Call {
     shows: &'static str,
     words: &'static [&'static str],
     script: &'static str,
     read_fails: u32,
-    write_fails: u32,
     status: u8,
     out: &'static str,
     err: &'static str,
 }
 
-const NAMED: &[&str] = &["--script", "s"];
-
-const CALLS: [Call; 19] = [
+const CALLS: [Call; 18] = [
     Call {
         shows: "host_alone",
         words: NAMED,
         script: HOST,
         read_fails: 0,
-        write_fails: 0,
         status: 0,
         out: HOST_REPORT,
         err: "",
@@ -186,7 +181,6 @@ const CALLS: [Call; 19] = [
         words: NAMED,
         script: PACKET,
         read_fails: 0,
-        write_fails: 0,
         status: 0,
         out: PACKET_REPORT,
         err: "",
@@ -196,7 +190,6 @@ const CALLS: [Call; 19] = [
         words: NAMED,
         script: SHOW,
         read_fails: 0,
-        write_fails: 0,
         status: 0,
         out: SHOW_REPORT,
         err: "",
@@ -206,7 +199,6 @@ const CALLS: [Call; 19] = [
         words: NAMED,
         script: EARLY,
         read_fails: 0,
-        write_fails: 0,
         status: 0,
         out: EARLY_REPORT,
         err: "",
@@ -216,7 +208,6 @@ const CALLS: [Call; 19] = [
         words: NAMED,
         script: PROXY,
         read_fails: 0,
-        write_fails: 0,
         status: 0,
         out: PROXY_REPORT,
         err: "",
@@ -226,7 +217,6 @@ const CALLS: [Call; 19] = [
         words: NAMED,
         script: PACKET_TO_IP6,
         read_fails: 0,
-        write_fails: 0,
         status: 0,
         out: PACKET_TO_IP6_REPORT,
         err: "",
@@ -236,7 +226,6 @@ const CALLS: [Call; 19] = [
         words: NAMED,
         script: OTHER_INTERVAL,
         read_fails: 0,
-        write_fails: 0,
         status: 0,
         out: HOST_REPORT,
         err: "",
@@ -246,7 +235,6 @@ const CALLS: [Call; 19] = [
         words: &["--window=70", "--script", "s"],
         script: FOUR_SENDERS,
         read_fails: 0,
-        write_fails: 0,
         status: 0,
         out: FOUR_SENDERS_REPORT,
         err: "",
@@ -256,7 +244,6 @@ const CALLS: [Call; 19] = [
         words: NAMED,
         script: "@0 neigh show\n",
         read_fails: 0,
-        write_fails: 0,
         status: 5,
         out: "",
         err: "neigh: script refused: 11 at line 1\n",
@@ -266,7 +253,6 @@ const CALLS: [Call; 19] = [
         words: NAMED,
         script: OTHER_DEVICE,
         read_fails: 0,
-        write_fails: 0,
         status: 5,
         out: "",
         err: "neigh: script refused: 9 at line 2\n",
@@ -276,7 +262,6 @@ const CALLS: [Call; 19] = [
         words: NAMED,
         script: "",
         read_fails: 0,
-        write_fails: 0,
         status: 5,
         out: "",
         err: "neigh: script refused: 11 at line 1\n",
@@ -286,7 +271,6 @@ const CALLS: [Call; 19] = [
         words: &["--script", "s", "--buckets", "65"],
         script: HOST,
         read_fails: 0,
-        write_fails: 0,
         status: 2,
         out: "",
         err: USAGE,
@@ -296,7 +280,6 @@ const CALLS: [Call; 19] = [
         words: &[],
         script: HOST,
         read_fails: 0,
-        write_fails: 0,
         status: 2,
         out: "",
         err: USAGE,
@@ -306,7 +289,6 @@ const CALLS: [Call; 19] = [
         words: &["--script", "-s"],
         script: HOST,
         read_fails: 0,
-        write_fails: 0,
         status: 2,
         out: "",
         err: USAGE,
@@ -316,7 +298,6 @@ const CALLS: [Call; 19] = [
         words: &["--script", "s", "s"],
         script: HOST,
         read_fails: 0,
-        write_fails: 0,
         status: 2,
         out: "",
         err: USAGE,
@@ -326,7 +307,6 @@ const CALLS: [Call; 19] = [
         words: NAMED,
         script: HOST,
         read_fails: 1,
-        write_fails: 0,
         status: 3,
         out: "",
         err: "neigh: cannot read s\n",
@@ -336,7 +316,6 @@ const CALLS: [Call; 19] = [
         words: &["--script", "t"],
         script: HOST,
         read_fails: 0,
-        write_fails: 0,
         status: 3,
         out: "",
         err: "neigh: cannot read t\n",
@@ -346,67 +325,51 @@ const CALLS: [Call; 19] = [
         words: NAMED,
         script: HOST,
         read_fails: 2,
-        write_fails: 0,
         status: 3,
         out: "",
         err: "neigh: cannot read s\n",
     },
-    Call {
-        shows: "failing sink",
-        words: NAMED,
-        script: HOST,
-        read_fails: 0,
-        write_fails: 2,
-        status: 6,
-        out: "neigh 1 mo",
-        err: "neigh: cannot write\n",
-    },
 ];
 
-fn bytes(alloc: Global, text: &str) -> Result<Bytes, AllocError> {
-    Ok(Items::from_vec(Vec::from_slice(alloc, text.as_bytes())?))
+/// Whether the call ends as it is to.
+fn ends_so(rt: &HostRuntime, alloc: Global, call: &Call) -> Result<bool, AllocError> {
+    let script = joined(alloc, call.script, "")?;
+    let inputs = script_alone(alloc, script, &[call.read_fails])?;
+    let ending = Ending {
+        status: call.status,
+        out: call.out,
+        err: call.err,
+    };
+    ends(rt, alloc, call.words, inputs, &ending)
 }
 
-fn one_file(alloc: Global, held: Bytes, fails: &[u32]) -> Result<MemoryInputs, AllocError> {
-    let mut files = Vec::new(alloc);
-    files.push(MemoryFile {
-        name: bytes(alloc, "s")?,
-        bytes: held,
-    })?;
-    MemoryInputs::new(alloc, files, fails)
-}
-
-fn strings(alloc: Global, words: &[&str]) -> Result<Vec<String>, AllocError> {
-    let mut strings = Vec::new(alloc);
-    for word in words {
-        strings.push(String::from_str(alloc, word)?)?;
+/// The first call that ends otherwise.
+fn first_other_end(
+    rt: &HostRuntime,
+    alloc: Global,
+    calls: &[Call],
+) -> Result<Option<&'static str>, AllocError> {
+    for call in calls {
+        if !ends_so(rt, alloc, call)? {
+            return Ok(Some(call.shows));
+        }
     }
-    Ok(strings)
+    Ok(None)
 }
 
 #[test]
 fn calls_have_their_reports_statuses_and_lines(rt: HostRuntime) -> Result<(), Fail> {
+    assert_eq!(rt; first_other_end(&rt, rt.alloc(), &CALLS)?, None);
+    Ok(())
+}
+
+/// A sink that takes ten bytes and then fails has the report's first ten.
+#[test]
+fn failing_sink(rt: HostRuntime) -> Result<(), Fail> {
     let alloc = rt.alloc();
-    for call in &CALLS {
-        let held = bytes(alloc, call.script)?;
-        let mut inputs = one_file(alloc, held, &[call.read_fails])?;
-        let most = if call.write_fails == 0 { 4096 } else { 10 };
-        let mut out = MemorySink::new(alloc, 4096, most, &[call.write_fails])?;
-        let mut err = MemorySink::new(alloc, 200, 200, &[])?;
-        let words = strings(alloc, call.words)?;
-        let status = run(
-            &rt,
-            alloc,
-            &words,
-            &mut inputs,
-            &mut out,
-            &mut err,
-            &OpenGate,
-        );
-        assert_eq!(rt; status, call.status, "{}", call.shows);
-        assert_eq!(rt; out.bytes(), call.out.as_bytes(), "{}", call.shows);
-        assert_eq!(rt; err.bytes(), call.err.as_bytes(), "{}", call.shows);
-    }
+    let inputs = script_alone(alloc, joined(alloc, HOST, "")?, &[])?;
+    let out = MemorySink::new(alloc, 4_096, 10, &[2])?;
+    assert!(rt; ends_into(&rt, alloc, NAMED, inputs, out, &TEN_BYTES)?);
     Ok(())
 }
 
@@ -420,32 +383,52 @@ fn packet_of(alloc: Global, len: usize) -> Result<Bytes, AllocError> {
     Ok(Items::from_vec(text.into_bytes()))
 }
 
-/// The packet is accepted, and waits, or it is refused.
+/// A packet that waits.
+const WAITING_REPORT: &str = "\
+neigh 1 mode inline buckets 1 senders 1 window 50
+host dev eth0 lladdr 02:00:00:00:00:02 inet 10.0.0.2
+bucket 0 lines 1
+0 0 33 send 10.0.0.1 -> waits
+  solicit ffffffffffff020000000002080600010800060400010200000000020a0000020000000000000a000001
+  wait 33
+host lines 0
+sender 1 items 1
+1 0 inline 0 waits
+marks 0
+fates sent 0 fast 0 dropped 0 waiting 1
+table 1
+10.0.0.1 dev eth0 INCOMPLETE
+proxies 0
+end
+";
+
+const WAITS: Ending<'static> = Ending {
+    status: 0,
+    out: WAITING_REPORT,
+    err: "",
+};
+
+const TOO_LARGE_A_PAYLOAD: Ending<'static> = Ending {
+    status: 5,
+    out: "",
+    err: "neigh: script refused: 7 at line 2\n",
+};
+
+/// Whether the call over a packet of so many bytes ends so.
+fn packet_ends(
+    rt: &HostRuntime,
+    alloc: Global,
+    len: usize,
+    ending: &Ending,
+) -> Result<bool, AllocError> {
+    let inputs = script_alone(alloc, packet_of(alloc, len)?, &[])?;
+    ends(rt, alloc, NAMED, inputs, ending)
+}
+
 #[test]
 fn payload_of_1500_and_1501_bytes(rt: HostRuntime) -> Result<(), Fail> {
-    let alloc = rt.alloc();
-    for (len, expected) in [(1500, 0), (1501, 5)] {
-        let mut inputs = one_file(alloc, packet_of(alloc, len)?, &[])?;
-        let mut out = MemorySink::new(alloc, 4096, 4096, &[])?;
-        let mut err = MemorySink::new(alloc, 200, 200, &[])?;
-        let words = strings(alloc, NAMED)?;
-        let status = run(
-            &rt,
-            alloc,
-            &words,
-            &mut inputs,
-            &mut out,
-            &mut err,
-            &OpenGate,
-        );
-        assert_eq!(rt; status, expected, "{len} bytes");
-        if expected == 5 {
-            assert_eq!(rt;
-                err.bytes(),
-                b"neigh: script refused: 7 at line 2\n".as_slice()
-            );
-        }
-    }
+    assert!(rt; packet_ends(&rt, rt.alloc(), 1500, &WAITS)?);
+    assert!(rt; packet_ends(&rt, rt.alloc(), 1501, &TOO_LARGE_A_PAYLOAD)?);
     Ok(())
 }
 
@@ -461,68 +444,52 @@ fn packets_to(alloc: Global, count: u32) -> Result<Bytes, AllocError> {
 #[test]
 fn packets_to_200_addresses(rt: HostRuntime) -> Result<(), Fail> {
     let alloc = rt.alloc();
-    let mut inputs = one_file(alloc, packets_to(alloc, 200)?, &[])?;
-    let mut out = MemorySink::new(alloc, 65_536, 65_536, &[])?;
-    let mut err = MemorySink::new(alloc, 200, 200, &[])?;
-    let words = strings(alloc, NAMED)?;
-    let status = run(
-        &rt,
-        alloc,
-        &words,
-        &mut inputs,
-        &mut out,
-        &mut err,
-        &OpenGate,
-    );
-    assert_eq!(rt; status, 0);
+    let inputs = script_alone(alloc, packets_to(alloc, 200)?, &[])?;
+    let report = report_of(&rt, alloc, NAMED, inputs, 65_536)?;
+    assert!(rt; report.is_some());
     Ok(())
 }
+
+const TOO_LONG: Ending<'static> = Ending {
+    status: 8,
+    out: "",
+    err: "neigh: too long: s\n",
+};
 
 #[test]
 fn a_script_of_one_byte_more_is_too_long(rt: HostRuntime) -> Result<(), Fail> {
     let alloc = rt.alloc();
-    let held = Items::from_vec(vec![in alloc; b'#'; 8_388_609]?);
-    let mut inputs = one_file(alloc, held, &[])?;
-    let mut out = MemorySink::new(alloc, 10, 10, &[])?;
-    let mut err = MemorySink::new(alloc, 200, 200, &[])?;
-    let words = strings(alloc, NAMED)?;
-    let status = run(
-        &rt,
-        alloc,
-        &words,
-        &mut inputs,
-        &mut out,
-        &mut err,
-        &OpenGate,
-    );
-    assert_eq!(rt; status, 8);
-    assert_eq!(rt; err.bytes(), b"neigh: too long: s\n".as_slice());
+    let script = Items::from_vec(vec![in alloc; b'#'; 8_388_609]?);
+    let inputs = script_alone(alloc, script, &[])?;
+    assert!(rt; ends(&rt, alloc, NAMED, inputs, &TOO_LONG)?);
     Ok(())
+}
+
+const NOT_TEXT: Ending<'static> = Ending {
+    status: 2,
+    out: "",
+    err: USAGE,
+};
+
+const NO_MEMORY: Ending<'static> = Ending {
+    status: 1,
+    out: "",
+    err: "neigh: no memory\n",
+};
+
+fn fails_so(
+    rt: &HostRuntime,
+    alloc: Global,
+    why: NoWords,
+    ending: &Ending,
+) -> Result<bool, AllocError> {
+    let inputs = script_alone(alloc, joined(alloc, HOST, "")?, &[])?;
+    ends_without_words(rt, alloc, why, inputs, ending)
 }
 
 #[test]
 fn words_that_are_not_text_and_no_memory_for_words(rt: HostRuntime) -> Result<(), Fail> {
-    let alloc = rt.alloc();
-    let cases = [
-        (NoWords::NotText, 2, USAGE),
-        (NoWords::Memory, 1, "neigh: no memory\n"),
-    ];
-    for (why, expected, line) in cases {
-        let mut inputs = one_file(alloc, bytes(alloc, HOST)?, &[])?;
-        let mut out = MemorySink::new(alloc, 10, 10, &[])?;
-        let mut err = MemorySink::new(alloc, 200, 200, &[])?;
-        let status = answer(
-            &rt,
-            alloc,
-            Err(why),
-            &mut inputs,
-            &mut out,
-            &mut err,
-            &OpenGate,
-        );
-        assert_eq!(rt; status, expected, "{line}");
-        assert_eq!(rt; err.bytes(), line.as_bytes());
-        assert!(rt; out.bytes().is_empty(), "{line}");
-    }
+    assert!(rt; fails_so(&rt, rt.alloc(), NoWords::NotText, &NOT_TEXT)?);
+    assert!(rt; fails_so(&rt, rt.alloc(), NoWords::Memory, &NO_MEMORY)?);
     Ok(())
 }

@@ -4,6 +4,8 @@
 #[cfg(test)]
 mod calls;
 #[cfg(test)]
+mod command;
+#[cfg(test)]
 mod command_words;
 #[cfg(test)]
 mod fates_of_scripts;

@@ -13,14 +13,13 @@ mod morning;
 mod proxies;
 mod whole_table;
 
+use crate::command::{
+    BESIDE, Ending, HOST, TEN_BYTES, ends, ends_into, replays, report_of, script_and_capture,
+};
 use hex::decode;
-use nb_base::{Bytes, Items};
-use nb_io::{MemoryFile, MemoryInputs, MemorySink, OpenGate};
-use neigh_replay::run;
+use nb_io::MemorySink;
 use std::alloc::{AllocError, Global};
 use std::test::Fail;
-
-const HOST: &str = "host dev eth0 lladdr 02:00:00:00:00:02 inet 10.0.0.2\n";
 
 /// A call of the command over a script `s` and a capture `c`, with its whole report. The capture has a record for each line: its moment in
 /// milliseconds, and its frame's hexadecimal digits.
@@ -30,14 +29,6 @@ pub struct Replay {
     pub script: &'static str,
     pub records: &'static str,
     pub report: &'static str,
-}
-
-/// What a call answers and writes.
-#[derive(Debug, Drop)]
-struct Answer {
-    status: u8,
-    out: MemorySink,
-    err: MemorySink,
 }
 
 /// The header of a big-endian capture file of microseconds, version 2.4, of Ethernet frames.
@@ -69,70 +60,11 @@ fn capture_of(alloc: Global, records: &str) -> Result<Vec<u8>, Fail> {
     Ok(file)
 }
 
-fn bytes(alloc: Global, text: &str) -> Result<Bytes, AllocError> {
-    Ok(Items::from_vec(Vec::from_slice(alloc, text.as_bytes())?))
-}
-
-/// The files `s` and `c`.
-fn inputs(
-    alloc: Global,
-    script: &str,
-    capture: Vec<u8>,
-    fails: &[u32],
-) -> Result<MemoryInputs, AllocError> {
-    let mut files = Vec::new(alloc);
-    files.push(MemoryFile {
-        name: bytes(alloc, "s")?,
-        bytes: bytes(alloc, script)?,
-    })?;
-    files.push(MemoryFile {
-        name: bytes(alloc, "c")?,
-        bytes: Items::from_vec(capture),
-    })?;
-    MemoryInputs::new(alloc, files, fails)
-}
-
-fn strings(alloc: Global, words: &[&str]) -> Result<Vec<String>, AllocError> {
-    let mut strings = Vec::new(alloc);
-    for word in words {
-        strings.push(String::from_str(alloc, word)?)?;
-    }
-    Ok(strings)
-}
-
-/// What the command answers to these words over these inputs, with room for so many bytes of a report.
-fn answer_of(
-    rt: &HostRuntime,
-    alloc: Global,
-    words: &[&str],
-    mut inputs: MemoryInputs,
-    room: u32,
-) -> Result<Answer, AllocError> {
-    let mut out = MemorySink::new(alloc, room, 65_536, &[])?;
-    let mut err = MemorySink::new(alloc, 200, 200, &[])?;
-    let words = strings(alloc, words)?;
-    let status = run(
-        rt,
-        alloc,
-        &words,
-        &mut inputs,
-        &mut out,
-        &mut err,
-        &OpenGate,
-    );
-    Ok(Answer { status, out, err })
-}
-
 /// Whether the call answers exactly this report.
-fn replays(rt: &HostRuntime, alloc: Global, replay: &Replay) -> Result<bool, Fail> {
+fn gives_report(rt: &HostRuntime, alloc: Global, replay: &Replay) -> Result<bool, Fail> {
     let capture = capture_of(alloc, replay.records)?;
-    let inputs = inputs(alloc, replay.script, capture, &[])?;
-    let answer = answer_of(rt, alloc, replay.words, inputs, 16_384)?;
-    Ok(
-        answer.status == 0
-            && answer.out.bytes() == replay.report.as_bytes()
-            && answer.err.bytes().is_empty(),
-    )
+    let inputs = script_and_capture(alloc, replay.script, capture, &[])?;
+    Ok(replays(rt, alloc, replay.words, inputs, replay.report)?)
 }
 
 /// The first replay of the table that doesn't give its report.
@@ -142,14 +74,27 @@ fn first_wrong(
     table: &[Replay],
 ) -> Result<Option<&'static str>, Fail> {
     for replay in table {
-        if !replays(rt, alloc, replay)? {
+        if !gives_report(rt, alloc, replay)? {
             return Ok(Some(replay.shows));
         }
     }
     Ok(None)
 }
 
-const BESIDE: &[&str] = &["--script", "s", "--capture", "c"];
+/// A capture of this one frame.
+fn one_frame(alloc: Global, digits: &str) -> Result<Vec<u8>, Fail> {
+    let mut capture = FILE_HEADER.to_vec(alloc)?;
+    put_record(&mut capture, 0, &bytes_of(alloc, digits)?)?;
+    Ok(capture)
+}
+
+/// Whether one of the report's lines is this.
+fn has_line(report: &MemorySink, line: &str) -> bool {
+    match str::from_utf8(report.bytes()) {
+        Ok(text) => text.lines().any(|it| it == line),
+        Err(_) => false,
+    }
+}
 
 /// Whether the report of the script beside a capture of this one frame has the line.
 fn says_of_frame(
@@ -159,12 +104,9 @@ fn says_of_frame(
     digits: &str,
     line: &str,
 ) -> Result<bool, Fail> {
-    let mut capture = FILE_HEADER.to_vec(alloc)?;
-    put_record(&mut capture, 0, &bytes_of(alloc, digits)?)?;
-    let inputs = inputs(alloc, script, capture, &[])?;
-    let answer = answer_of(rt, alloc, BESIDE, inputs, 16_384)?;
-    let report = str::from_utf8(answer.out.bytes())?;
-    Ok(answer.status == 0 && report.lines().any(|it| it == line))
+    let inputs = script_and_capture(alloc, script, one_frame(alloc, digits)?, &[])?;
+    let report = report_of(rt, alloc, BESIDE, inputs, 16_384)?;
+    Ok(report.is_some_and(|report| has_line(&report, line)))
 }
 
 /// The first row of a line of the host's journal, a bar and a frame, whose frame doesn't give that line.
@@ -186,7 +128,7 @@ fn first_wrong_frame<'a>(
 #[test]
 fn hosts_and_their_frames(rt: HostRuntime) -> Result<(), Fail> {
     let alloc = rt.alloc();
-    assert_eq!(rt; first_wrong(&rt, alloc, &hosts::REPLAYS)?, None);
+    assert_eq!(rt; first_wrong(&rt, alloc, hosts::replays())?, None);
     let wrong = first_wrong_frame(&rt, alloc, frames::FRAMES_SCRIPT, frames::FRAMES)?;
     assert_eq!(rt; wrong, None);
     Ok(())
@@ -195,9 +137,9 @@ fn hosts_and_their_frames(rt: HostRuntime) -> Result<(), Fail> {
 #[test]
 fn neighbour_discovery_and_its_frames(rt: HostRuntime) -> Result<(), Fail> {
     let alloc = rt.alloc();
-    assert_eq!(rt; first_wrong(&rt, alloc, &keys::REPLAYS)?, None);
-    assert_eq!(rt; first_wrong(&rt, alloc, &discovery::REPLAYS)?, None);
-    assert_eq!(rt; first_wrong(&rt, alloc, &proxies::REPLAYS)?, None);
+    assert_eq!(rt; first_wrong(&rt, alloc, keys::replays())?, None);
+    assert_eq!(rt; first_wrong(&rt, alloc, discovery::replays())?, None);
+    assert_eq!(rt; first_wrong(&rt, alloc, proxies::replays())?, None);
     let wrong = first_wrong_frame(
         &rt,
         alloc,
@@ -211,21 +153,24 @@ fn neighbour_discovery_and_its_frames(rt: HostRuntime) -> Result<(), Fail> {
 #[test]
 fn several_buckets(rt: HostRuntime) -> Result<(), Fail> {
     let alloc = rt.alloc();
-    assert_eq!(rt; first_wrong(&rt, alloc, &buckets::REPLAYS)?, None);
+    assert_eq!(rt; first_wrong(&rt, alloc, buckets::replays())?, None);
     Ok(())
 }
 
 #[test]
 fn thresholds_over_several_buckets(rt: HostRuntime) -> Result<(), Fail> {
     let alloc = rt.alloc();
-    assert_eq!(rt; first_wrong(&rt, alloc, &bucket_thresholds::REPLAYS)?, None);
+    assert_eq!(rt;
+        first_wrong(&rt, alloc, bucket_thresholds::replays())?,
+        None
+    );
     Ok(())
 }
 
 #[test]
 fn lines_that_see_the_whole_table(rt: HostRuntime) -> Result<(), Fail> {
     let alloc = rt.alloc();
-    assert_eq!(rt; first_wrong(&rt, alloc, &whole_table::REPLAYS)?, None);
+    assert_eq!(rt; first_wrong(&rt, alloc, whole_table::replays())?, None);
     Ok(())
 }
 
@@ -267,71 +212,129 @@ proxies 0
 end
 ";
 
-/// The calls of the inputs that are to fail, and the line. Opening and reading the script are the first three calls.
-const FAILING_CALLS: [(u32, &str); 5] = [
-    (1, "neigh: cannot read s\n"),
-    (2, "neigh: cannot read s\n"),
-    (4, "neigh: cannot read c\n"),
-    (5, "neigh: cannot read c\n"),
-    (6, "neigh: cannot read c\n"),
-];
+/// Whether the file is refused as a capture so. The capture is checked before the script, which has no host line.
+fn is_refused(rt: &HostRuntime, alloc: Global, refusal: &str, digits: &str) -> Result<bool, Fail> {
+    let inputs = script_and_capture(alloc, "", bytes_of(alloc, digits)?, &[])?;
+    let line = format!(in alloc; "neigh: capture refused: {refusal}\n")?;
+    let ending = Ending {
+        status: 4,
+        out: "",
+        err: &line,
+    };
+    Ok(ends(rt, alloc, BESIDE, inputs, &ending)?)
+}
+
+/// The first row whose file isn't refused so.
+fn first_taken(
+    rt: &HostRuntime,
+    alloc: Global,
+    rows: &'static str,
+) -> Result<Option<&'static str>, Fail> {
+    for row in rows.lines() {
+        let (refusal, digits) = row.split_once('|').ok_or("a refusal and a file")?;
+        if !is_refused(rt, alloc, refusal, digits)? {
+            return Ok(Some(row));
+        }
+    }
+    Ok(None)
+}
 
 #[test]
 fn cut_captures_and_an_empty_one(rt: HostRuntime) -> Result<(), Fail> {
-    let alloc = rt.alloc();
-    for row in REFUSED_FILES.lines() {
-        let (refusal, digits) = row.split_once('|').ok_or("a refusal and a file")?;
-        // The capture is checked before the script, which has no host line.
-        let inputs = inputs(alloc, "", bytes_of(alloc, digits)?, &[])?;
-        let answer = answer_of(&rt, alloc, BESIDE, inputs, 10)?;
-        let line = format!(in alloc; "neigh: capture refused: {refusal}\n")?;
-        assert_eq!(rt; answer.status, 4, "{row}");
-        assert_eq!(rt; answer.err.bytes(), line.as_bytes(), "{row}");
-        assert!(rt; answer.out.bytes().is_empty(), "{row}");
-    }
+    assert_eq!(rt; first_taken(&rt, rt.alloc(), REFUSED_FILES)?, None);
     Ok(())
 }
 
 #[test]
 fn moments_never_fall(rt: HostRuntime) -> Result<(), Fail> {
     let alloc = rt.alloc();
-    let inputs = inputs(alloc, HOST, bytes_of(alloc, FALLING_STAMPS)?, &[])?;
-    let answer = answer_of(&rt, alloc, BESIDE, inputs, 4_096)?;
-    assert_eq!(rt; answer.status, 0);
-    assert_eq!(rt; answer.out.bytes(), FALLING_REPORT.as_bytes());
+    let inputs = script_and_capture(alloc, HOST, bytes_of(alloc, FALLING_STAMPS)?, &[])?;
+    assert!(rt; replays(&rt, alloc, BESIDE, inputs, FALLING_REPORT)?);
     Ok(())
+}
+
+/// A call over the script `s` and an empty capture `c`: the name of the capture, the call of the inputs that is to fail, and how it ends.
+struct Failing {
+    capture: &'static str,
+    fails: u32,
+    status: u8,
+    err: &'static str,
+}
+
+/// Opening and reading the script are the first three calls.
+const FAILING: [Failing; 7] = [
+    Failing {
+        capture: "c",
+        fails: 1,
+        status: 3,
+        err: "neigh: cannot read s\n",
+    },
+    Failing {
+        capture: "c",
+        fails: 2,
+        status: 3,
+        err: "neigh: cannot read s\n",
+    },
+    Failing {
+        capture: "c",
+        fails: 4,
+        status: 3,
+        err: "neigh: cannot read c\n",
+    },
+    Failing {
+        capture: "c",
+        fails: 5,
+        status: 3,
+        err: "neigh: cannot read c\n",
+    },
+    Failing {
+        capture: "c",
+        fails: 6,
+        status: 3,
+        err: "neigh: cannot read c\n",
+    },
+    Failing {
+        capture: "d",
+        fails: 0,
+        status: 3,
+        err: "neigh: cannot read d\n",
+    },
+    Failing {
+        capture: "s",
+        fails: 0,
+        status: 4,
+        err: "neigh: capture refused: 2 at 0\n",
+    },
+];
+
+fn fails_so(rt: &HostRuntime, alloc: Global, failing: &Failing) -> Result<bool, Fail> {
+    let inputs = script_and_capture(alloc, HOST, capture_of(alloc, "")?, &[failing.fails])?;
+    let words = ["--capture", failing.capture, "--script", "s"];
+    let ending = Ending {
+        status: failing.status,
+        out: "",
+        err: failing.err,
+    };
+    Ok(ends(rt, alloc, &words, inputs, &ending)?)
+}
+
+/// The first call that ends otherwise.
+fn first_other_end(
+    rt: &HostRuntime,
+    alloc: Global,
+    table: &[Failing],
+) -> Result<Option<&'static str>, Fail> {
+    for failing in table {
+        if !fails_so(rt, alloc, failing)? {
+            return Ok(Some(failing.err));
+        }
+    }
+    Ok(None)
 }
 
 #[test]
 fn failing_files_and_other_names(rt: HostRuntime) -> Result<(), Fail> {
-    let alloc = rt.alloc();
-    for (call, line) in FAILING_CALLS {
-        let capture = capture_of(alloc, "")?;
-        let answer = answer_of(
-            &rt,
-            alloc,
-            BESIDE,
-            inputs(alloc, HOST, capture, &[call])?,
-            10,
-        )?;
-        assert_eq!(rt; answer.status, 3, "call {call}");
-        assert_eq!(rt; answer.err.bytes(), line.as_bytes(), "call {call}");
-    }
-    for (name, status, line) in [
-        ("d", 3, "neigh: cannot read d\n"),
-        ("s", 4, "neigh: capture refused: 2 at 0\n"),
-    ] {
-        let words = ["--capture", name, "--script", "s"];
-        let answer = answer_of(
-            &rt,
-            alloc,
-            &words,
-            inputs(alloc, HOST, capture_of(alloc, "")?, &[])?,
-            10,
-        )?;
-        assert_eq!(rt; answer.status, status, "{name}");
-        assert_eq!(rt; answer.err.bytes(), line.as_bytes(), "{name}");
-    }
+    assert_eq!(rt; first_other_end(&rt, rt.alloc(), &FAILING)?, None);
     Ok(())
 }
 
@@ -339,32 +342,23 @@ fn failing_files_and_other_names(rt: HostRuntime) -> Result<(), Fail> {
 #[test]
 fn failing_sink(rt: HostRuntime) -> Result<(), Fail> {
     let alloc = rt.alloc();
-    let mut inputs = inputs(alloc, HOST, capture_of(alloc, "0 \n")?, &[])?;
-    let mut out = MemorySink::new(alloc, 4_096, 10, &[2])?;
-    let mut err = MemorySink::new(alloc, 200, 200, &[])?;
-    let words = strings(alloc, BESIDE)?;
-    let status = run(
-        &rt,
-        alloc,
-        &words,
-        &mut inputs,
-        &mut out,
-        &mut err,
-        &OpenGate,
-    );
-    assert_eq!(rt; status, 6);
-    assert_eq!(rt; out.bytes(), b"neigh 1 mo".as_slice());
-    assert_eq!(rt; err.bytes(), b"neigh: cannot write\n".as_slice());
+    let inputs = script_and_capture(alloc, HOST, capture_of(alloc, "0 \n")?, &[])?;
+    let out = MemorySink::new(alloc, 4_096, 10, &[2])?;
+    assert!(rt; ends_into(&rt, alloc, BESIDE, inputs, out, &TEN_BYTES)?);
     Ok(())
 }
+
+const TOO_LONG: Ending<'static> = Ending {
+    status: 8,
+    out: "",
+    err: "neigh: too long: c\n",
+};
 
 /// A capture of one byte more than 64 MiB.
 #[test]
 fn too_long_capture(rt: HostRuntime) -> Result<(), Fail> {
     let alloc = rt.alloc();
-    let inputs = inputs(alloc, HOST, vec![in alloc; 0; 67_108_865]?, &[])?;
-    let answer = answer_of(&rt, alloc, BESIDE, inputs, 10)?;
-    assert_eq!(rt; answer.status, 8);
-    assert_eq!(rt; answer.err.bytes(), b"neigh: too long: c\n".as_slice());
+    let inputs = script_and_capture(alloc, HOST, vec![in alloc; 0; 67_108_865]?, &[])?;
+    assert!(rt; ends(&rt, alloc, BESIDE, inputs, &TOO_LONG)?);
     Ok(())
 }

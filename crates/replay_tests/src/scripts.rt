@@ -12,14 +12,10 @@ mod thresholds;
 mod timers;
 mod waiting;
 
-use nb_base::{Bytes, Items};
-use nb_io::{MemoryFile, MemoryInputs, MemorySink, OpenGate};
-use neigh_replay::run;
+use crate::command::{HOST, NAMED, joined, replays, script_alone};
 use std::alloc::{AllocError, Global};
 use std::fmt::Write;
 use std::test::Fail;
-
-const HOST: &str = "host dev eth0 lladdr 02:00:00:00:00:02 inet 10.0.0.2\n";
 
 /// A script without its host line, and its report without the first two lines.
 pub struct Worked {
@@ -38,15 +34,8 @@ pub struct Packets {
     pub report: &'static str,
 }
 
-/// A first text with another behind it.
-fn joined(alloc: Global, front: &str, rest: &str) -> Result<Bytes, AllocError> {
-    let mut text = String::from_str(alloc, front)?;
-    text.push_str(rest)?;
-    Ok(Items::from_vec(text.into_bytes()))
-}
-
 /// The report's first line, the host's, and the rest.
-fn whole_report(alloc: Global, senders: u32, rest: &str) -> Result<Bytes, AllocError> {
+fn whole_report(alloc: Global, senders: u32, rest: &str) -> Result<String, AllocError> {
     let mut text = String::new(alloc);
     writeln!(
         text,
@@ -54,46 +43,18 @@ fn whole_report(alloc: Global, senders: u32, rest: &str) -> Result<Bytes, AllocE
     )?;
     text.push_str(HOST)?;
     text.push_str(rest)?;
-    Ok(Items::from_vec(text.into_bytes()))
+    Ok(text)
 }
 
-fn words(alloc: Global) -> Result<Vec<String>, AllocError> {
-    let mut words = Vec::new(alloc);
-    words.push(String::from_str(alloc, "--script")?)?;
-    words.push(String::from_str(alloc, "s")?)?;
-    Ok(words)
-}
-
-/// The file of a script whose host line is left out.
-fn inputs(alloc: Global, script: &str) -> Result<MemoryInputs, AllocError> {
-    let mut files = Vec::new(alloc);
-    files.push(MemoryFile {
-        name: joined(alloc, "s", "")?,
-        bytes: joined(alloc, HOST, script)?,
-    })?;
-    MemoryInputs::new(alloc, files, &[])
-}
-
-/// Whether the call replays the script to the report.
-fn replays(
+/// Whether the call replays the script, whose host line is left out, to the report.
+fn replays_script(
     rt: &HostRuntime,
     alloc: Global,
     script: &str,
-    report: &Bytes,
+    report: &str,
 ) -> Result<bool, AllocError> {
-    let mut inputs = inputs(alloc, script)?;
-    let mut out = MemorySink::new(alloc, 8192, 8192, &[])?;
-    let mut err = MemorySink::new(alloc, 200, 200, &[])?;
-    let status = run(
-        rt,
-        alloc,
-        &words(alloc)?,
-        &mut inputs,
-        &mut out,
-        &mut err,
-        &OpenGate,
-    );
-    Ok(status == 0 && out.bytes() == report.as_slice() && err.bytes().is_empty())
+    let inputs = script_alone(alloc, joined(alloc, HOST, script)?, &[])?;
+    replays(rt, alloc, NAMED, inputs, report)
 }
 
 /// The first script of the table that isn't replayed to its report.
@@ -104,7 +65,7 @@ fn first_wrong(
 ) -> Result<Option<&'static str>, AllocError> {
     for worked in table {
         let report = whole_report(alloc, worked.senders, worked.report)?;
-        if !replays(rt, alloc, worked.script, &report)? {
+        if !replays_script(rt, alloc, worked.script, &report)? {
             return Ok(Some(worked.shows));
         }
     }
@@ -138,7 +99,7 @@ fn first_wrong_packets(
     for packets in table {
         let script = script_of(alloc, packets)?;
         let report = whole_report(alloc, 1, packets.report)?;
-        if !replays(rt, alloc, &script, &report)? {
+        if !replays_script(rt, alloc, &script, &report)? {
             return Ok(Some(packets.shows));
         }
     }
@@ -148,29 +109,29 @@ fn first_wrong_packets(
 #[test]
 fn packets_and_timers(rt: HostRuntime) -> Result<(), Fail> {
     let alloc = rt.alloc();
-    assert_eq!(rt; first_wrong(&rt, alloc, &waiting::SCRIPTS)?, None);
-    assert_eq!(rt; first_wrong_packets(&rt, alloc, &sizes::SCRIPTS)?, None);
-    assert_eq!(rt; first_wrong(&rt, alloc, &timers::SCRIPTS)?, None);
-    assert_eq!(rt; first_wrong(&rt, alloc, &confirming::SCRIPTS)?, None);
-    assert_eq!(rt; first_wrong(&rt, alloc, &retiming::SCRIPTS)?, None);
+    assert_eq!(rt; first_wrong(&rt, alloc, waiting::scripts())?, None);
+    assert_eq!(rt; first_wrong_packets(&rt, alloc, sizes::scripts())?, None);
+    assert_eq!(rt; first_wrong(&rt, alloc, timers::scripts())?, None);
+    assert_eq!(rt; first_wrong(&rt, alloc, confirming::scripts())?, None);
+    assert_eq!(rt; first_wrong(&rt, alloc, retiming::scripts())?, None);
     Ok(())
 }
 
 #[test]
 fn operations_by_hand_and_several_senders(rt: HostRuntime) -> Result<(), Fail> {
     let alloc = rt.alloc();
-    assert_eq!(rt; first_wrong(&rt, alloc, &adding::SCRIPTS)?, None);
-    assert_eq!(rt; first_wrong(&rt, alloc, &changing::SCRIPTS)?, None);
-    assert_eq!(rt; first_wrong(&rt, alloc, &removing::SCRIPTS)?, None);
-    assert_eq!(rt; first_wrong(&rt, alloc, &ordering::SCRIPTS)?, None);
+    assert_eq!(rt; first_wrong(&rt, alloc, adding::scripts())?, None);
+    assert_eq!(rt; first_wrong(&rt, alloc, changing::scripts())?, None);
+    assert_eq!(rt; first_wrong(&rt, alloc, removing::scripts())?, None);
+    assert_eq!(rt; first_wrong(&rt, alloc, ordering::scripts())?, None);
     Ok(())
 }
 
 #[test]
 fn thresholds_forced_passes_and_sweeps(rt: HostRuntime) -> Result<(), Fail> {
     let alloc = rt.alloc();
-    assert_eq!(rt; first_wrong(&rt, alloc, &thresholds::SCRIPTS)?, None);
-    assert_eq!(rt; first_wrong(&rt, alloc, &forced_passes::SCRIPTS)?, None);
-    assert_eq!(rt; first_wrong(&rt, alloc, &sweeps::SCRIPTS)?, None);
+    assert_eq!(rt; first_wrong(&rt, alloc, thresholds::scripts())?, None);
+    assert_eq!(rt; first_wrong(&rt, alloc, forced_passes::scripts())?, None);
+    assert_eq!(rt; first_wrong(&rt, alloc, sweeps::scripts())?, None);
     Ok(())
 }

@@ -1,7 +1,11 @@
 //! One script under thresholds in each order, over several buckets.
 use crate::replays::Replay;
 
-pub const REPLAYS: [Replay; 6] = [
+pub fn replays() -> &'static [Replay] {
+    &REPLAYS
+}
+
+const REPLAYS: [Replay; 6] = [
     Replay {
         shows: "thresholds_2_3_4_over_2_buckets",
         words: &["--script", "s", "--buckets", "2"],

@@ -1,7 +1,11 @@
 //! Scripts and captures over several buckets.
 use crate::replays::Replay;
 
-pub const REPLAYS: [Replay; 6] = [
+pub fn replays() -> &'static [Replay] {
+    &REPLAYS
+}
+
+const REPLAYS: [Replay; 6] = [
     Replay {
         shows: "flush_over_four_buckets",
         words: &["--script", "s", "--buckets", "4"],

@@ -1,7 +1,11 @@
 //! Captures of neighbour discovery.
 use crate::replays::Replay;
 
-pub const REPLAYS: [Replay; 12] = [
+pub fn replays() -> &'static [Replay] {
+    &REPLAYS
+}
+
+const REPLAYS: [Replay; 12] = [
     Replay {
         shows: "advert_without_override",
         words: &["--script", "s", "--capture", "c"],

@@ -1,5 +1,6 @@
 //! A queue of proxy requests that fills.
-use crate::replays::{BESIDE, HOST, answer_of, capture_of, inputs};
+use crate::command::{BESIDE, HOST, replays, script_and_capture};
+use crate::replays::capture_of;
 use std::alloc::{AllocError, Global};
 use std::fmt::Write;
 use std::test::Fail;
@@ -48,23 +49,27 @@ fn report(alloc: Global) -> Result<String, AllocError> {
     Ok(text)
 }
 
-#[test]
-fn proxy_queue_of_64(rt: HostRuntime) -> Result<(), Fail> {
-    let alloc = rt.alloc();
-    let mut script = String::from_str(alloc, HOST)?;
-    script.push_str("@0 neigh add proxy 10.0.0.9\n@1000 neigh show\n")?;
+/// A proxy, and a look a second later.
+const SCRIPT: &str = "\
+host dev eth0 lladdr 02:00:00:00:00:02 inet 10.0.0.2
+@0 neigh add proxy 10.0.0.9
+@1000 neigh show
+";
+
+/// A capture of 65 requests.
+fn requests(alloc: Global) -> Result<Vec<u8>, Fail> {
     let mut records = String::new(alloc);
     for _ in 0..65u32 {
         records.push_str(REQUEST)?;
     }
-    let files = inputs(
-        alloc,
-        script.as_str(),
-        capture_of(alloc, records.as_str())?,
-        &[],
-    )?;
-    let answer = answer_of(&rt, alloc, BESIDE, files, 16_384)?;
-    assert_eq!(rt; answer.status, 0);
-    assert_eq!(rt; answer.out.bytes(), report(alloc)?.as_bytes());
+    capture_of(alloc, records.as_str())
+}
+
+#[test]
+fn proxy_queue_of_64(rt: HostRuntime) -> Result<(), Fail> {
+    let alloc = rt.alloc();
+    let inputs = script_and_capture(alloc, SCRIPT, requests(alloc)?, &[])?;
+    let report = report(alloc)?;
+    assert!(rt; replays(&rt, alloc, BESIDE, inputs, &report)?);
     Ok(())
 }

@@ -1,6 +1,6 @@
-//! Words that ask for a generated run beside something else. A whole one takes too long for a test.
-use crate::calls::USAGE;
-use crate::replays::{HOST, answer_of, capture_of, inputs};
+//! Words that ask for a generated run beside something else. Whole runs are those of the program `generated_runs`.
+use crate::command::{Ending, HOST, USAGE, ends, joined, script_alone};
+use std::alloc::{AllocError, Global};
 use std::test::Fail;
 
 // Words that aren't of the command.
@@ -11,15 +11,22 @@ const REFUSED_WORDS: [&[&str]; 4] = [
     &["--generate", "1", "--generate", "1"],
 ];
 
+const REFUSED: Ending<'static> = Ending {
+    status: 2,
+    out: "",
+    err: USAGE,
+};
+
+/// Whether the words aren't of the command.
+fn are_refused(rt: &HostRuntime, alloc: Global, words: &[&str]) -> Result<bool, AllocError> {
+    let inputs = script_alone(alloc, joined(alloc, HOST, "")?, &[])?;
+    ends(rt, alloc, words, inputs, &REFUSED)
+}
+
 #[test]
 fn generate_stands_alone(rt: HostRuntime) -> Result<(), Fail> {
-    let alloc = rt.alloc();
     for words in REFUSED_WORDS {
-        let files = inputs(alloc, HOST, capture_of(alloc, "")?, &[])?;
-        let answer = answer_of(&rt, alloc, words, files, 4_096)?;
-        assert_eq!(rt; answer.status, 2, "{words:?}");
-        assert_eq!(rt; answer.err.bytes(), USAGE.as_bytes(), "{words:?}");
-        assert!(rt; answer.out.bytes().is_empty(), "{words:?}");
+        assert!(rt; are_refused(&rt, rt.alloc(), words)?, "{words:?}");
     }
     Ok(())
 }

@@ -1,7 +1,11 @@
 //! Captures of hosts that ask and answer by ARP.
 use crate::replays::Replay;
 
-pub const REPLAYS: [Replay; 9] = [
+pub fn replays() -> &'static [Replay] {
+    &REPLAYS
+}
+
+const REPLAYS: [Replay; 9] = [
     Replay {
         shows: "request_is_answered_and_learnt",
         words: &["--script", "s", "--capture", "c"],

@@ -1,7 +1,11 @@
 //! Scripts with IPv6 addresses.
 use crate::replays::Replay;
 
-pub const REPLAYS: [Replay; 6] = [
+pub fn replays() -> &'static [Replay] {
+    &REPLAYS
+}
+
+const REPLAYS: [Replay; 6] = [
     Replay {
         shows: "first_packet_asks_the_solicited_node",
         words: &["--script", "s"],

@@ -4,7 +4,8 @@ ghost use Rattle.pcap_records.specs.Capture.{AreBounded};
 ghost use Rattle.neigh_script.specs.Limits as limits;
 ghost use Rattle.neigh_plan.specs.Inline.{IsEnterable};
 
-use crate::replays::{BESIDE, FILE_HEADER, answer_of, bytes_of, inputs, put_record};
+use crate::command::{BESIDE, Ending, ends, script_and_capture};
+use crate::replays::{FILE_HEADER, bytes_of, put_record};
 use nb_base::Plan;
 use neigh_plan::{line_bound, plan};
 use neigh_script::Script;
@@ -19,11 +20,8 @@ const REPLY: &str =
 const PATIENT_HOST: &str =
     "host dev eth0 lladdr 02:00:00:00:00:02 inet 10.0.0.2\nparam mcast_solicit 10\nparam ucast_solicit 10\n";
 
-/// When the last of 139,810 records comes, and the line bound. The records count for thirty lines each; with two sweeps and one line they are
-/// one less than 2^22, and with a third sweep they are 2^22.
-const BOUNDS: [(u32, u64); 2] = [(89_999, 4_194_303), (90_000, 4_194_304)];
-
-/// A capture of 139,810 replies, all at the first moment but the last.
+/// A capture of 139,810 replies, all at the first moment but the last. The records count for thirty lines each. When the last comes before
+/// the third sweep, the bound is one less than 2^22, and from then on it is 2^22.
 fn replies(alloc: Global, last: u32) -> Result<Vec<u8>, Fail> {
     let frame = bytes_of(alloc, REPLY)?;
     let mut file = FILE_HEADER.to_vec(alloc)?;
@@ -63,32 +61,25 @@ fn plan_beside(alloc: Global, text: &str, capture: &[u8]) -> Result<Plan, Fail>
     Ok(plan)
 }
 
-/// Whether the command answers that the plan of these files is too large.
-fn is_too_large(
-    rt: &HostRuntime,
-    alloc: Global,
-    script: &str,
-    capture: Vec<u8>,
-) -> Result<bool, Fail> {
-    let files = inputs(alloc, script, capture, &[])?;
-    let answer = answer_of(rt, alloc, BESIDE, files, 10)?;
-    Ok(
-        answer.status == 7
-            && answer.out.bytes().is_empty()
-            && answer.err.bytes() == b"neigh: too large\n".as_slice(),
-    )
+const TOO_LARGE: Ending<'static> = Ending {
+    status: 7,
+    out: "",
+    err: "neigh: too large\n",
+};
+
+/// The line bound of the host's plan beside the capture.
+fn bound_of(alloc: Global, capture: &[u8]) -> Result<u64, Fail> {
+    Ok(line_bound(&plan_beside(alloc, PATIENT_HOST, capture)?))
 }
 
 #[test]
 fn line_bounds_at_their_limit(rt: HostRuntime) -> Result<(), Fail> {
     let alloc = rt.alloc();
-    for (last, bound) in BOUNDS {
-        let capture = replies(alloc, last)?;
-        let plan = plan_beside(alloc, PATIENT_HOST, &capture)?;
-        assert_eq!(rt; line_bound(&plan), bound);
-        if bound == 4_194_304 {
-            assert!(rt; is_too_large(&rt, alloc, PATIENT_HOST, capture)?);
-        }
-    }
+    let capture = replies(alloc, 89_999)?;
+    assert_eq!(rt; bound_of(alloc, &capture)?, 4_194_303);
+    let capture = replies(alloc, 90_000)?;
+    assert_eq!(rt; bound_of(alloc, &capture)?, 4_194_304);
+    let inputs = script_and_capture(alloc, PATIENT_HOST, capture, &[])?;
+    assert!(rt; ends(&rt, alloc, BESIDE, inputs, &TOO_LARGE)?);
     Ok(())
 }

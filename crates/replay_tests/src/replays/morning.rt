@@ -1,5 +1,6 @@
 //! A realistic morning: forty hosts ask and answer for five minutes while two senders send three thousand packets to them.
-use crate::replays::{BESIDE, FILE_HEADER, HOST, answer_of, inputs};
+use crate::command::{BESIDE, HOST, report_of, script_and_capture};
+use crate::replays::FILE_HEADER;
 use link_codec::{Arp, write_arp, write_eth};
 use nb_base::Mac;
 use std::alloc::{AllocError, Global};
@@ -154,7 +155,31 @@ const BUCKETS_OF_64: &[(&'static str, usize)] = &[
     ("  entry ", 40),
 ];
 
-/// The first part that another number of lines of the morning's report has, or the report's end if that is another.
+/// The first part that another number of the text's lines have.
+fn first_other_count(text: &str, counts: &[(&'static str, usize)]) -> Option<&'static str> {
+    for (part, count) in counts {
+        if lines_with(text, part) != *count {
+            return Some(*part);
+        }
+    }
+    None
+}
+
+/// The first part that another number of the report's lines have, or the report's end if that is another.
+fn first_wrong_in(
+    alloc: Global,
+    report: &[u8],
+    counts: &[(&'static str, usize)],
+) -> Result<Option<&'static str>, Fail> {
+    let text = str::from_utf8(report)?;
+    let end = end_of_report(alloc)?;
+    if !text.ends_with(end.as_str()) {
+        return Ok(Some("the end"));
+    }
+    Ok(first_other_count(text, counts))
+}
+
+/// The first thing that the morning's report has otherwise.
 fn first_wrong_part(
     rt: &HostRuntime,
     alloc: Global,
@@ -162,20 +187,11 @@ fn first_wrong_part(
     counts: &[(&'static str, usize)],
 ) -> Result<Option<&'static str>, Fail> {
     let script = packets(alloc)?;
-    let files = inputs(alloc, script.as_str(), morning(alloc)?, &[])?;
-    let answer = answer_of(rt, alloc, words, files, 1_048_576)?;
-    let report = str::from_utf8(answer.out.bytes())?;
-    for (part, count) in counts {
-        if lines_with(report, part) != *count {
-            return Ok(Some(*part));
-        }
+    let inputs = script_and_capture(alloc, script.as_str(), morning(alloc)?, &[])?;
+    match report_of(rt, alloc, words, inputs, 1_048_576)? {
+        None => Ok(Some("the status")),
+        Some(report) => first_wrong_in(alloc, report.bytes(), counts),
     }
-    let end = end_of_report(alloc)?;
-    Ok(if answer.status == 0 && report.ends_with(end.as_str()) {
-        None
-    } else {
-        Some("the end")
-    })
 }
 
 const BESIDE_64: &[&str] = &["--script", "s", "--capture", "c", "--buckets=64"];

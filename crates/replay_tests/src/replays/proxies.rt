@@ -1,7 +1,11 @@
 //! Scripts and captures with proxies.
 use crate::replays::Replay;
 
-pub const REPLAYS: [Replay; 9] = [
+pub fn replays() -> &'static [Replay] {
+    &REPLAYS
+}
+
+const REPLAYS: [Replay; 9] = [
     Replay {
         shows: "proxy_lines_and_their_order",
         words: &["--script", "s"],

@@ -1,7 +1,11 @@
 //! Scripts whose lines see the whole table of two buckets.
 use crate::replays::Replay;
 
-pub const REPLAYS: [Replay; 8] = [
+pub fn replays() -> &'static [Replay] {
+    &REPLAYS
+}
+
+const REPLAYS: [Replay; 8] = [
     Replay {
         shows: "show_over_two_buckets",
         words: &["--script", "s", "--buckets", "2"],

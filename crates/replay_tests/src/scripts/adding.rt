@@ -1,7 +1,11 @@
 //! Scripts of adding by hand, and of operations that are refused.
 use crate::scripts::Worked;
 
-pub const SCRIPTS: [Worked; 8] = [
+pub fn scripts() -> &'static [Worked] {
+    &SCRIPTS
+}
+
+const SCRIPTS: [Worked; 8] = [
     Worked {
         shows: "add_twice_del_missing_add_without_address",
         senders: 1,

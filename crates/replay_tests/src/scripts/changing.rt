@@ -1,7 +1,11 @@
 //! Scripts of changing and replacing by hand.
 use crate::scripts::Worked;
 
-pub const SCRIPTS: [Worked; 8] = [
+pub fn scripts() -> &'static [Worked] {
+    &SCRIPTS
+}
+
+const SCRIPTS: [Worked; 8] = [
     Worked {
         shows: "change_of_an_incomplete_entry_sends_its_packets",
         senders: 1,

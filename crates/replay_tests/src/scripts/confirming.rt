@@ -1,7 +1,11 @@
 //! Scripts of confirmations.
 use crate::scripts::Worked;
 
-pub const SCRIPTS: [Worked; 9] = [
+pub fn scripts() -> &'static [Worked] {
+    &SCRIPTS
+}
+
+const SCRIPTS: [Worked; 9] = [
     Worked {
         shows: "confirm_prolongs_reachable",
         senders: 1,

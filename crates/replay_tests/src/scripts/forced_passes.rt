@@ -1,7 +1,11 @@
 //! Scripts of tables that fill and of forced passes.
 use crate::scripts::Worked;
 
-pub const SCRIPTS: [Worked; 9] = [
+pub fn scripts() -> &'static [Worked] {
+    &SCRIPTS
+}
+
+const SCRIPTS: [Worked; 9] = [
     Worked {
         shows: "full_table_and_forced_pass",
         senders: 1,

@@ -1,7 +1,11 @@
 //! Scripts of the order of keys, of looks and of several senders.
 use crate::scripts::Worked;
 
-pub const SCRIPTS: [Worked; 9] = [
+pub fn scripts() -> &'static [Worked] {
+    &SCRIPTS
+}
+
+const SCRIPTS: [Worked; 9] = [
     Worked {
         shows: "ties_go_by_rank",
         senders: 1,

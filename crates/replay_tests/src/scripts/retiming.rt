@@ -1,7 +1,11 @@
 //! Scripts of changes by hand that touch a timer or a confirmation.
 use crate::scripts::Worked;
 
-pub const SCRIPTS: [Worked; 6] = [
+pub fn scripts() -> &'static [Worked] {
+    &SCRIPTS
+}
+
+const SCRIPTS: [Worked; 6] = [
     Worked {
         shows: "change_by_hand_stops_the_timer",
         senders: 1,

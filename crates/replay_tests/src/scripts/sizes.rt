@@ -1,7 +1,11 @@
 //! Packets of many sizes that wait for an address: each takes 256 bytes and its payload's.
 use crate::scripts::Packets;
 
-pub const SCRIPTS: [Packets; 3] = [
+pub fn scripts() -> &'static [Packets] {
+    &SCRIPTS
+}
+
+const SCRIPTS: [Packets; 3] = [
     Packets {
         shows: "bytes_push_out_two",
         parameters: "param unres_qlen_bytes 2000\n",

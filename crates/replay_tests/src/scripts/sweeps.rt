@@ -1,7 +1,11 @@
 //! Scripts of sweeps.
 use crate::scripts::Worked;
 
-pub const SCRIPTS: [Worked; 7] = [
+pub fn scripts() -> &'static [Worked] {
+    &SCRIPTS
+}
+
+const SCRIPTS: [Worked; 7] = [
     Worked {
         shows: "third_sweep_removes",
         senders: 1,

@@ -1,7 +1,11 @@
 //! One script under thresholds in each order, and under equal ones.
 use crate::scripts::Worked;
 
-pub const SCRIPTS: [Worked; 8] = [
+pub fn scripts() -> &'static [Worked] {
+    &SCRIPTS
+}
+
+const SCRIPTS: [Worked; 8] = [
     Worked {
         shows: "thresholds_2_3_4",
         senders: 1,

@@ -1,7 +1,11 @@
 //! Scripts of timers and sweeps.
 use crate::scripts::Worked;
 
-pub const SCRIPTS: [Worked; 10] = [
+pub fn scripts() -> &'static [Worked] {
+    &SCRIPTS
+}
+
+const SCRIPTS: [Worked; 10] = [
     Worked {
         shows: "permanent_and_noarp_need_no_timers",
         senders: 1,

@@ -1,7 +1,11 @@
 //! Scripts of packets that wait or are dropped.
 use crate::scripts::Worked;
 
-pub const SCRIPTS: [Worked; 10] = [
+pub fn scripts() -> &'static [Worked] {
+    &SCRIPTS
+}
+
+const SCRIPTS: [Worked; 10] = [
     Worked {
         shows: "unresolved_after_three_probes",
         senders: 1,
