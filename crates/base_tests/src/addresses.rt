@@ -376,14 +376,10 @@ fn words_of(usable: bool) -> (u64, u64) {
     record.words()
 }
 
-/// Whether the words are those of a record that has the header, and of which kind.
-fn kind_of(a: u64, b: u64) -> Option<bool> {
+/// Of the record that the words are those of, whether it can be used, and whether it has the header.
+fn kind_of(a: u64, b: u64) -> Option<(bool, bool)> {
     let record = Record::of_words(a, b)?;
-    if record.header == HEADER {
-        Some(record.usable)
-    } else {
-        None
-    }
+    Some((record.usable, record.header == HEADER))
 }
 
 #[test]
@@ -391,7 +387,7 @@ fn records_as_words(rt: HostRuntime) -> Result<(), Fail> {
     let (a, b) = (0x0011_2233_4455_0200, 0x0000_0002_0800_0000);
     for (usable, last) in [(true, 0x100), (false, 0)] {
         assert_eq!(rt; words_of(usable), (a, b + last), "at {last}");
-        assert_eq!(rt; kind_of(a, b + last), Some(usable), "at {last}");
+        assert_eq!(rt; kind_of(a, b + last), Some((usable, true)), "at {last}");
     }
     for last in [1, 0x101, 0x200, 0xff00] {
         assert_eq!(rt; kind_of(a, b + last), None, "at {last}");
