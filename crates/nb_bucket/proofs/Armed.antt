@@ -68,6 +68,10 @@ armed-more p lines t k a = record {
   ahead = a.ahead;
 }
 
+-- so they are where nodes were made up to a number
+pub armed-reserved : (p : Params) (lines : List Line) (t new : Timers) (nodes : ℕ) → new ≡ record { now = t.now; dues = t.dues ++ replicate (nodes - length t.dues) None } → AreArmed p lines t → AreArmed p lines new
+armed-reserved p lines t new nodes is a = rw is (armed-more p lines t (nodes - length t.dues) a)
+
 -- time goes on to a moment that no due lies before
 pub armed-passed : (p : Params) (lines : List Line) (t : Timers) (at : ℕ) → NothingOverdue p lines at → AreArmed p lines t → AreArmed p lines (record { now = at; dues = t.dues })
 armed-passed p lines t at none a = record { nodes = a.nodes; each = a.each; spare = a.spare; ahead = none }
@@ -305,10 +309,3 @@ timer-one p lines l next = ap (λ (x : Line). goes_to_each x.op) next.line_is
 
 pub timer-made : (p : Params) (lines : List Line) (l : Line) → IsNextTimer p lines l → made_known l.op ≡ None
 timer-made p lines l next = ap (λ (x : Line). made_known x.op) next.line_is
-
--- and one that makes one known needs one more than there are keys
-pub enough-nodes : (dues : List (Option ℕ)) (known nodes : ℕ) → nodes ≡ known + 1 → known < length (dues ++ replicate (nodes - length dues) None)
-enough-nodes dues known nodes e =
-    let more = length-append dues (replicate (nodes - length dues) None) in
-    let many = length-replicate {A = Option ℕ} (nodes - length dues) None in
-    omega (arith, e, more, many)

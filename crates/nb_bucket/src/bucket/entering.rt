@@ -11,7 +11,7 @@ ghost use Rattle.nb_bucket.specs.Entering.{IsEntered};
 use super::Bucket;
 use crate::BucketFail;
 use crate::passing::{pass_after, plan};
-use crate::room::check_room;
+use crate::room::{check_room, make_room};
 use crate::writing::write;
 use nb_base::{Line, Moment, Op, OpId, Reply};
 use nb_census::Census;
@@ -64,12 +64,14 @@ impl Bucket {
         let has = self.fold.lines().len() as u32;
         let collects = self.victims.len() as u32;
         check_room(has, collects + 1, self.limit)?;
-        self.fold.reserve(alloc, collects as usize + 1)?;
-        let nodes = self.fold.keys().len() + 1;
-        self.victims.reserve(nodes)?;
-        self.ranks.reserve(nodes)?;
-        self.order.reserve(nodes as u32)?;
-        self.timers.reserve(nodes as u32)?;
+        make_room(
+            alloc,
+            &mut self.fold,
+            &mut self.order,
+            &mut self.ranks,
+            &mut self.victims,
+            &mut self.timers,
+        )?;
         self.timers.advance(at);
         let reply = write(
             &mut self.fold,
