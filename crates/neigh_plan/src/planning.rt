@@ -43,19 +43,19 @@ impl<'a> Files<'a> {
         ensures fit { AreFit (length self.old.bytes.now) 0 self.new.records.now }
         ensures shorter { IfSome result (λ _. length self.new.lines.now + length self.new.records.now < length self.old.lines.now + length self.old.records.now) }
     {
-        let Some((record, later)) = self.records.split_first() else {
+        let Some((rec, later)) = self.records.split_first() else {
             return self.next_line();
         };
         let Some((line, behind)) = self.lines.split_first() else {
             self.records = later;
-            return Some(Step::Record(*record));
+            return Some(Step::Record(*rec));
         };
-        if goes_first(line, record) {
+        if goes_first(line, rec) {
             self.lines = behind;
             Some(Step::Line(line))
         } else {
             self.records = later;
-            Some(Step::Record(*record))
+            Some(Step::Record(*rec))
         }
     }
 
@@ -76,12 +76,12 @@ impl<'a> Files<'a> {
 }
 
 /// A line that sends is none of participant 0's, and goes first at any moment.
-fn goes_first(line: &ScriptItem, record: &Rec) -> bool
-    ensures { result ≡ (is_sent line.now || nat_le (at_of line.now) record.now.at) }
+fn goes_first(line: &ScriptItem, rec: &Rec) -> bool
+    ensures { result ≡ (is_sent line.now || nat_le (at_of line.now) rec.now.at) }
 {
     match line {
-        ScriptItem::Neigh { at, .. } => *at <= record.at,
-        ScriptItem::Proxy { at, .. } => *at <= record.at,
+        ScriptItem::Neigh { at, .. } => *at <= rec.at,
+        ScriptItem::Proxy { at, .. } => *at <= rec.at,
         ScriptItem::Send { .. } => true,
     }
 }
@@ -95,13 +95,13 @@ fn piece(bytes: &[u8], start: usize, len: usize) -> &[u8]
 }
 
 /// A record's frame, with a copy of its bytes.
-fn frame(alloc: Global, bytes: &[u8], record: &Rec) -> Result<ControlItem, AllocError>
-    requires { record.now.start + record.now.len ≤ length bytes.now }
-    ensures { IfOk result (λ item. item ≡ frame_of bytes.now record.now) }
+fn frame(alloc: Global, bytes: &[u8], rec: &Rec) -> Result<ControlItem, AllocError>
+    requires { rec.now.start + rec.now.len ≤ length bytes.now }
+    ensures { IfOk result (λ item. item ≡ frame_of bytes.now rec.now) }
 {
-    let captured = piece(bytes, record.start, record.len);
+    let captured = piece(bytes, rec.start, rec.len);
     Ok(ControlItem::Frame {
-        at: record.at,
+        at: rec.at,
         bytes: copy_bytes(alloc, captured)?,
     })
 }
@@ -133,7 +133,7 @@ fn take_step(
 {
     match step {
         Step::Line(line) => take_control(items, line),
-        Step::Record(record) => items.push(frame(alloc, bytes, record)?),
+        Step::Record(rec) => items.push(frame(alloc, bytes, rec)?),
     }
 }
 
