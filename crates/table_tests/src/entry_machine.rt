@@ -3,17 +3,14 @@ ghost use Rattle.nud_machine.specs.Asked.{NamesSettable, BringsSized, FiresAtDue
 
 mod steps;
 
+use crate::rows::{A, row_count};
 use nb_base::{Host, Key, Mac, Moment, Name, Nud, Params};
 use nb_queues::WaitQueue;
 use nud_machine::{Act, Acts, Entry, Event, due, record, step};
 use std::alloc::{AllocError, Global};
 use std::marker::Model;
 use std::test::Fail;
-use steps::{
-    ARP_AT_LOCKTIME_AND_PAST_IT, BYTES_PUSH_OUT_TWO, CONFIRM_IN_DELAY, DELAY_THEN_UNICAST_PROBE,
-    DELAY_WITHOUT_UNICAST_PROBES, GIVEN_REACHABLE, LARGE_PACKET_WAITS_ALONE, REACHABLE_TURNS_STALE,
-    Row, UNRESOLVED_AFTER_THREE_PROBES,
-};
+use steps::{Step, step_of};
 
 /// A present entry, its queue and the acts of its last step.
 #[derive(Drop)]
@@ -94,13 +91,6 @@ impl Trial {
     }
 }
 
-fn moment(millis: Option<u64>) -> Option<Moment> {
-    match millis {
-        None => None,
-        Some(millis) => Some(Moment(millis)),
-    }
-}
-
 /// The first acts, and that there are no more than three.
 fn listed(acts: &[Act]) -> [Option<Act>; 4] {
     [
@@ -113,41 +103,38 @@ fn listed(acts: &[Act]) -> [Option<Act>; 4] {
 
 impl Trial {
     /// Whether the step may be asked for and leaves what it is to leave.
-    fn takes(&mut self, row: &Row) -> bool {
-        let left = Entry {
-            present: true,
-            nud: row.nud,
-            mac: row.mac,
-            confirmed: moment(row.confirmed),
-            updated: Moment(row.updated),
-            used: Moment(0),
-            probes: row.probes,
-            due: moment(row.due),
-            router: false,
-        };
-        self.step(Moment(row.at), &row.event)
-            && self.entry == left
-            && listed(self.acts.as_slice()) == row.acts
+    fn takes(&mut self, step: &Step) -> bool {
+        self.step(step.at, &step.event)
+            && self.entry == step.left
+            && listed(self.acts.as_slice()) == step.acts
+    }
+
+    /// Whether the row is one, and the entry takes its step.
+    fn takes_row(&mut self, row: &str) -> bool {
+        match step_of(row) {
+            Some(step) => self.takes(&step),
+            None => false,
+        }
     }
 }
 
-/// The place of the first row that the entry doesn't take; `None` where it takes all.
-fn first_untaken_by(trial: &mut Trial, rows: &[Row]) -> Option<usize> {
-    for (place, row) in rows.iter().enumerate() {
-        if !trial.takes(row) {
-            return Some(place);
+/// The first row that the entry doesn't take; `None` where it takes all.
+fn first_untaken_by<'a>(trial: &mut Trial, rows: &'a str) -> Option<&'a str> {
+    for row in rows.lines() {
+        if !trial.takes_row(row) {
+            return Some(row);
         }
     }
     None
 }
 
 /// The same of an entry with so many unicast probes, where so many bytes may wait.
-fn first_untaken(
+fn first_untaken<'a>(
     alloc: Global,
     ucast_solicit: u32,
     unres_qlen_bytes: u32,
-    rows: &[Row],
-) -> Result<Option<usize>, AllocError>
+    rows: &'a str,
+) -> Result<Option<&'a str>, AllocError>
     requires solicit { ucast_solicit ≤ 10 }
     requires least { 256 ≤ unres_qlen_bytes }
     requires most { unres_qlen_bytes ≤ 16_448 }
@@ -157,55 +144,61 @@ fn first_untaken(
 }
 
 /// The same with three unicast probes, where 800 bytes may wait.
-fn first_untaken_of(alloc: Global, rows: &[Row]) -> Result<Option<usize>, AllocError> {
+fn first_untaken_of<'a>(alloc: Global, rows: &'a str) -> Result<Option<&'a str>, AllocError> {
     first_untaken(alloc, 3, 800, rows)
 }
 
 #[test]
 fn arp_at_locktime_and_past_it(rt: HostRuntime) -> Result<(), Fail> {
-    let untaken = first_untaken_of(rt.alloc(), &ARP_AT_LOCKTIME_AND_PAST_IT)?;
-    assert_eq!(rt; untaken, None);
+    let rows = steps::arp_at_locktime_and_past_it();
+    let untaken = first_untaken_of(rt.alloc(), rows)?;
+    assert_eq!(rt; (untaken, row_count(rows)), (None, 3));
     Ok(())
 }
 
 #[test]
 fn unresolved_after_three_probes(rt: HostRuntime) -> Result<(), Fail> {
-    let untaken = first_untaken_of(rt.alloc(), &UNRESOLVED_AFTER_THREE_PROBES)?;
-    assert_eq!(rt; untaken, None);
+    let rows = steps::unresolved_after_three_probes();
+    let untaken = first_untaken_of(rt.alloc(), rows)?;
+    assert_eq!(rt; (untaken, row_count(rows)), (None, 7));
     Ok(())
 }
 
 #[test]
 fn reachable_turns_stale(rt: HostRuntime) -> Result<(), Fail> {
-    let untaken = first_untaken_of(rt.alloc(), &REACHABLE_TURNS_STALE)?;
-    assert_eq!(rt; untaken, None);
+    let rows = steps::reachable_turns_stale();
+    let untaken = first_untaken_of(rt.alloc(), rows)?;
+    assert_eq!(rt; (untaken, row_count(rows)), (None, 3));
     Ok(())
 }
 
 #[test]
 fn delay_then_unicast_probe(rt: HostRuntime) -> Result<(), Fail> {
-    let untaken = first_untaken_of(rt.alloc(), &DELAY_THEN_UNICAST_PROBE)?;
-    assert_eq!(rt; untaken, None);
+    let rows = steps::delay_then_unicast_probe();
+    let untaken = first_untaken_of(rt.alloc(), rows)?;
+    assert_eq!(rt; (untaken, row_count(rows)), (None, 4));
     Ok(())
 }
 
 #[test]
 fn confirm_in_delay(rt: HostRuntime) -> Result<(), Fail> {
-    let untaken = first_untaken_of(rt.alloc(), &CONFIRM_IN_DELAY)?;
-    assert_eq!(rt; untaken, None);
+    let rows = steps::confirm_in_delay();
+    let untaken = first_untaken_of(rt.alloc(), rows)?;
+    assert_eq!(rt; (untaken, row_count(rows)), (None, 4));
     Ok(())
 }
 
 #[test]
 fn delay_without_unicast_probes(rt: HostRuntime) -> Result<(), Fail> {
-    let untaken = first_untaken(rt.alloc(), 0, 800, &DELAY_WITHOUT_UNICAST_PROBES)?;
-    assert_eq!(rt; untaken, None);
+    let rows = steps::delay_without_unicast_probes();
+    let untaken = first_untaken(rt.alloc(), 0, 800, rows)?;
+    assert_eq!(rt; (untaken, row_count(rows)), (None, 3));
     Ok(())
 }
 
 impl Trial {
     /// How many packets wait, and how many bytes they count for, behind rows that the entry takes.
-    fn waits_behind(&mut self, rows: &[Row]) -> Option<(u32, u32)> {
+    fn waits_behind(&mut self, rows: &str) -> Option<(u32, u32)> {
         match first_untaken_by(self, rows) {
             None => Some((self.waiting.len(), self.waiting.total())),
             Some(_) => None,
@@ -217,7 +210,7 @@ impl Trial {
 fn waiting(
     alloc: Global,
     unres_qlen_bytes: u32,
-    rows: &[Row],
+    rows: &str,
 ) -> Result<Option<(u32, u32)>, AllocError>
     requires least { 256 ≤ unres_qlen_bytes }
     requires most { unres_qlen_bytes ≤ 16_448 }
@@ -228,12 +221,20 @@ fn waiting(
 
 #[test]
 fn bytes_that_wait(rt: HostRuntime) -> Result<(), Fail> {
-    let left = waiting(rt.alloc(), 2_000, &BYTES_PUSH_OUT_TWO)?;
-    assert_eq!(rt; left, Some((1, 1_756)));
-    let left = waiting(rt.alloc(), 1_000, &LARGE_PACKET_WAITS_ALONE)?;
-    assert_eq!(rt; left, Some((1, 257)));
+    let rows = steps::bytes_push_out_two();
+    let left = waiting(rt.alloc(), 2_000, rows)?;
+    assert_eq!(rt; (left, row_count(rows)), (Some((1, 1_756)), 3));
+    let rows = steps::large_packet_waits_alone();
+    let left = waiting(rt.alloc(), 1_000, rows)?;
+    assert_eq!(rt; (left, row_count(rows)), (Some((1, 257)), 2));
     Ok(())
 }
+
+/// The address A is given by hand, in the state REACHABLE.
+const GIVEN_REACHABLE: Event = Event::Admin {
+    mac: Some(A),
+    nud: Nud::Reachable,
+};
 
 impl Trial {
     /// Whether its record can't be used, and its header has no bytes but zeros.
@@ -254,7 +255,7 @@ impl Trial {
 
     /// Whether it takes the address A at 7 ms.
     fn is_given(&mut self) -> bool {
-        self.step(Moment(7), &GIVEN_REACHABLE.event)
+        self.step(Moment(7), &GIVEN_REACHABLE)
     }
 
     /// Whether it is removed at 8 ms, and nothing of it stays.

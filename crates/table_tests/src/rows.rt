@@ -17,7 +17,8 @@ pub fn cut(text: &str) -> Option<(&str, &str)> {
     text.split_once(' ')
 }
 
-fn number(word: &str) -> Option<u64> {
+/// The number that the word has.
+pub fn number(word: &str) -> Option<u64> {
     word.parse().ok()
 }
 
@@ -48,6 +49,10 @@ pub fn nud_of(word: &str) -> Option<Nud> {
         Some(Nud::Reachable)
     } else if word == "stale" {
         Some(Nud::Stale)
+    } else if word == "delay" {
+        Some(Nud::Delay)
+    } else if word == "probe" {
+        Some(Nud::Probe)
     } else if word == "failed" {
         Some(Nud::Failed)
     } else if word == "permanent" {
@@ -190,4 +195,9 @@ pub fn reply_of(text: &str) -> Option<Option<Reply>> {
 /// What stands before the first bar, and what behind it.
 pub fn at_bar(row: &str) -> Option<(&str, &str)> {
     row.split_once('|')
+}
+
+/// How many rows the text has.
+pub fn row_count(rows: &str) -> usize {
+    rows.lines().count()
 }
