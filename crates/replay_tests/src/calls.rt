@@ -1,6 +1,8 @@
+//! Calls of the command over a script alone. The table of calls is cut as `cases.rt` says, and a call is a status, what fails, and words.
+use crate::cases::{Case, HEAD, call_of, case_of, count_of};
 use crate::command::{
-    Ending, HOST, NAMED, TEN_BYTES, USAGE, ends, ends_into, ends_without_words, joined, report_of,
-    script_alone,
+    Ending, HOST, NAMED, TEN_BYTES, USAGE, ending_of, ends, ends_into, ends_without_words, joined,
+    report_of, script_alone,
 };
 use nb_base::{Bytes, Items};
 use nb_io::MemorySink;
@@ -9,46 +11,50 @@ use std::alloc::{AllocError, Global};
 use std::fmt::Write;
 use std::test::Fail;
 
-const SHOW: &str = "host dev eth0 lladdr 02:00:00:00:00:02 inet 10.0.0.2\n@0 neigh show\n";
+fn table() -> &'static str {
+    CALLS
+}
 
-const PACKET: &str =
-    "host dev eth0 lladdr 02:00:00:00:00:02 inet 10.0.0.2\n@0 neigh add 10.0.0.1 dev eth0 lladdr 00:11:22:33:44:55 nud permanent\n@5 send 1 10.0.0.1 4500\n";
-
-const EARLY: &str =
-    "host dev eth0 lladdr 02:00:00:00:00:02 inet 10.0.0.2\n@5 send 1 10.0.0.1 4500\n@6 neigh add 10.0.0.1 lladdr 00:11:22:33:44:55\n";
-
-const OTHER_DEVICE: &str =
-    "host dev eth0 lladdr 02:00:00:00:00:02 inet 10.0.0.2\n@0 neigh add 10.0.0.1 dev eth1\n";
-
-const PROXY: &str =
-    "host dev eth0 lladdr 02:00:00:00:00:02 inet 10.0.0.2\n@0 neigh add proxy 10.0.0.1\n";
-
-const PACKET_TO_IP6: &str =
-    "host dev eth0 lladdr 02:00:00:00:00:02 inet6 2001:db8::2\n@0 send 1 2001:db8::1 00\n";
-
-const OTHER_INTERVAL: &str =
-    "host dev eth0 lladdr 02:00:00:00:00:02 inet 10.0.0.2\nparam gc_interval 20000\n";
-
-const FOUR_SENDERS: &str = "\
+/// Calls over one file `s`. What a call writes goes to standard output at the status 0, and to standard error at any other.
+const CALLS: &str = "\
+== host_alone: 0 0 --script s
 host dev eth0 lladdr 02:00:00:00:00:02 inet 10.0.0.2
-senders 4
-@0 neigh add 10.0.0.1 lladdr 00:11:22:33:44:55
-@0 send 3 10.0.0.1 0a
-@0 send 1 10.0.0.1 0b
-@5 send 4 10.0.0.1 0c
-@5 neigh add 10.0.0.1 lladdr 00:11:22:33:44:66
-@5 neigh add 10.0.0.3 lladdr 00:11:22:33:44:77
-@5 send 2 10.0.0.3 0d
-@7 send 1 10.0.0.3 0e
-";
-
-const HOST_REPORT: &str =
-    "neigh 1 mode inline buckets 1 senders 1 window 50\nhost dev eth0 lladdr 02:00:00:00:00:02 inet 10.0.0.2\nbucket 0 lines 0\nhost lines 0\nsender 1 items 0\nmarks 0\nfates sent 0 fast 0 dropped 0 waiting 0\ntable 0\nproxies 0\nend\n";
-
-const PACKET_REPORT: &str =
-    "neigh 1 mode inline buckets 1 senders 1 window 50\nhost dev eth0 lladdr 02:00:00:00:00:02 inet 10.0.0.2\nbucket 0 lines 2\n0 0 32 add 10.0.0.1 00:11:22:33:44:55 permanent -> done\n1 5 33 send 10.0.0.1 -> sent\n  tx 33 00112233445502000000000208004500\nhost lines 1\n1 0 neigh op 0 0 done\nsender 1 items 1\n1 5 inline 1 sent\nmarks 0\nfates sent 1 fast 0 dropped 0 waiting 0\ntable 1\n10.0.0.1 dev eth0 lladdr 00:11:22:33:44:55 PERMANENT\nproxies 0\nend\n";
-
-const SHOW_REPORT: &str = "\
+-- report
+neigh 1 mode inline buckets 1 senders 1 window 50
+host dev eth0 lladdr 02:00:00:00:00:02 inet 10.0.0.2
+bucket 0 lines 0
+host lines 0
+sender 1 items 0
+marks 0
+fates sent 0 fast 0 dropped 0 waiting 0
+table 0
+proxies 0
+end
+== permanent_entry_and_packet: 0 0 --script s
+host dev eth0 lladdr 02:00:00:00:00:02 inet 10.0.0.2
+@0 neigh add 10.0.0.1 dev eth0 lladdr 00:11:22:33:44:55 nud permanent
+@5 send 1 10.0.0.1 4500
+-- report
+neigh 1 mode inline buckets 1 senders 1 window 50
+host dev eth0 lladdr 02:00:00:00:00:02 inet 10.0.0.2
+bucket 0 lines 2
+0 0 32 add 10.0.0.1 00:11:22:33:44:55 permanent -> done
+1 5 33 send 10.0.0.1 -> sent
+  tx 33 00112233445502000000000208004500
+host lines 1
+1 0 neigh op 0 0 done
+sender 1 items 1
+1 5 inline 1 sent
+marks 0
+fates sent 1 fast 0 dropped 0 waiting 0
+table 1
+10.0.0.1 dev eth0 lladdr 00:11:22:33:44:55 PERMANENT
+proxies 0
+end
+== a look at an empty table: 0 0 --script s
+host dev eth0 lladdr 02:00:00:00:00:02 inet 10.0.0.2
+@0 neigh show
+-- report
 neigh 1 mode inline buckets 1 senders 1 window 50
 host dev eth0 lladdr 02:00:00:00:00:02 inet 10.0.0.2
 bucket 0 lines 1
@@ -61,9 +67,11 @@ fates sent 0 fast 0 dropped 0 waiting 0
 table 0
 proxies 0
 end
-";
-
-const EARLY_REPORT: &str = "\
+== a packet before its entry: 0 0 --script s
+host dev eth0 lladdr 02:00:00:00:00:02 inet 10.0.0.2
+@5 send 1 10.0.0.1 4500
+@6 neigh add 10.0.0.1 lladdr 00:11:22:33:44:55
+-- report
 neigh 1 mode inline buckets 1 senders 1 window 50
 host dev eth0 lladdr 02:00:00:00:00:02 inet 10.0.0.2
 bucket 0 lines 2
@@ -81,9 +89,10 @@ table 1
 10.0.0.1 dev eth0 INCOMPLETE
 proxies 0
 end
-";
-
-const PROXY_REPORT: &str = "\
+== a proxied address: 0 0 --script s
+host dev eth0 lladdr 02:00:00:00:00:02 inet 10.0.0.2
+@0 neigh add proxy 10.0.0.1
+-- report
 neigh 1 mode inline buckets 1 senders 1 window 50
 host dev eth0 lladdr 02:00:00:00:00:02 inet 10.0.0.2
 bucket 0 lines 0
@@ -96,9 +105,10 @@ table 0
 proxies 1
 10.0.0.1 dev eth0 proxy
 end
-";
-
-const PACKET_TO_IP6_REPORT: &str = "\
+== a packet to an IPv6 address: 0 0 --script s
+host dev eth0 lladdr 02:00:00:00:00:02 inet6 2001:db8::2
+@0 send 1 2001:db8::1 00
+-- report
 neigh 1 mode inline buckets 1 senders 1 window 50
 host dev eth0 lladdr 02:00:00:00:00:02 inet6 2001:db8::2
 bucket 0 lines 1
@@ -114,9 +124,32 @@ table 1
 2001:db8::1 dev eth0 INCOMPLETE
 proxies 0
 end
-";
-
-const FOUR_SENDERS_REPORT: &str = "\
+== another sweep interval: 0 0 --script s
+host dev eth0 lladdr 02:00:00:00:00:02 inet 10.0.0.2
+param gc_interval 20000
+-- report
+neigh 1 mode inline buckets 1 senders 1 window 50
+host dev eth0 lladdr 02:00:00:00:00:02 inet 10.0.0.2
+bucket 0 lines 0
+host lines 0
+sender 1 items 0
+marks 0
+fates sent 0 fast 0 dropped 0 waiting 0
+table 0
+proxies 0
+end
+== four senders with equal moments: 0 0 --window=70 --script s
+host dev eth0 lladdr 02:00:00:00:00:02 inet 10.0.0.2
+senders 4
+@0 neigh add 10.0.0.1 lladdr 00:11:22:33:44:55
+@0 send 3 10.0.0.1 0a
+@0 send 1 10.0.0.1 0b
+@5 send 4 10.0.0.1 0c
+@5 neigh add 10.0.0.1 lladdr 00:11:22:33:44:66
+@5 neigh add 10.0.0.3 lladdr 00:11:22:33:44:77
+@5 send 2 10.0.0.3 0d
+@7 send 1 10.0.0.3 0e
+-- report
 neigh 1 mode inline buckets 1 senders 4 window 70
 host dev eth0 lladdr 02:00:00:00:00:02 inet 10.0.0.2
 bucket 0 lines 8
@@ -153,205 +186,71 @@ table 2
 10.0.0.3 dev eth0 lladdr 00:11:22:33:44:77 PERMANENT
 proxies 0
 end
+== show_before_host: 5 0 --script s
+@0 neigh show
+-- report
+neigh: script refused: 11 at line 1
+== other_device: 5 0 --script s
+host dev eth0 lladdr 02:00:00:00:00:02 inet 10.0.0.2
+@0 neigh add 10.0.0.1 dev eth1
+-- report
+neigh: script refused: 9 at line 2
+== empty_script: 5 0 --script s
+-- report
+neigh: script refused: 11 at line 1
+== 65 buckets: 2 0 --script s --buckets 65
+host dev eth0 lladdr 02:00:00:00:00:02 inet 10.0.0.2
+-- report
+neigh: usage: neigh --script FILE [--capture FILE] [--mode inline|threads] [--window MS] [--buckets N] | neigh --generate NUMBER
+== no_words: 2 0
+host dev eth0 lladdr 02:00:00:00:00:02 inet 10.0.0.2
+-- report
+neigh: usage: neigh --script FILE [--capture FILE] [--mode inline|threads] [--window MS] [--buckets N] | neigh --generate NUMBER
+== a name that begins with a dash: 2 0 --script -s
+host dev eth0 lladdr 02:00:00:00:00:02 inet 10.0.0.2
+-- report
+neigh: usage: neigh --script FILE [--capture FILE] [--mode inline|threads] [--window MS] [--buckets N] | neigh --generate NUMBER
+== a word too many: 2 0 --script s s
+host dev eth0 lladdr 02:00:00:00:00:02 inet 10.0.0.2
+-- report
+neigh: usage: neigh --script FILE [--capture FILE] [--mode inline|threads] [--window MS] [--buckets N] | neigh --generate NUMBER
+== failing open: 3 1 --script s
+host dev eth0 lladdr 02:00:00:00:00:02 inet 10.0.0.2
+-- report
+neigh: cannot read s
+== missing file: 3 0 --script t
+host dev eth0 lladdr 02:00:00:00:00:02 inet 10.0.0.2
+-- report
+neigh: cannot read t
+== failing read: 3 2 --script s
+host dev eth0 lladdr 02:00:00:00:00:02 inet 10.0.0.2
+-- report
+neigh: cannot read s
 ";
 
-/// A call of the command over one file `s`, with the number of the call of its inputs that is to fail, or 0.
-struct Call {
-    shows: &'static str,
-    words: &'static [&'static str],
-    script: &'static str,
-    read_fails: u32,
-    status: u8,
-    out: &'static str,
-    err: &'static str,
-}
-
-const CALLS: [Call; 18] = [
-    Call {
-        shows: "host_alone",
-        words: NAMED,
-        script: HOST,
-        read_fails: 0,
-        status: 0,
-        out: HOST_REPORT,
-        err: "",
-    },
-    Call {
-        shows: "permanent_entry_and_packet",
-        words: NAMED,
-        script: PACKET,
-        read_fails: 0,
-        status: 0,
-        out: PACKET_REPORT,
-        err: "",
-    },
-    Call {
-        shows: "a look at an empty table",
-        words: NAMED,
-        script: SHOW,
-        read_fails: 0,
-        status: 0,
-        out: SHOW_REPORT,
-        err: "",
-    },
-    Call {
-        shows: "a packet before its entry",
-        words: NAMED,
-        script: EARLY,
-        read_fails: 0,
-        status: 0,
-        out: EARLY_REPORT,
-        err: "",
-    },
-    Call {
-        shows: "a proxied address",
-        words: NAMED,
-        script: PROXY,
-        read_fails: 0,
-        status: 0,
-        out: PROXY_REPORT,
-        err: "",
-    },
-    Call {
-        shows: "a packet to an IPv6 address",
-        words: NAMED,
-        script: PACKET_TO_IP6,
-        read_fails: 0,
-        status: 0,
-        out: PACKET_TO_IP6_REPORT,
-        err: "",
-    },
-    Call {
-        shows: "another sweep interval",
-        words: NAMED,
-        script: OTHER_INTERVAL,
-        read_fails: 0,
-        status: 0,
-        out: HOST_REPORT,
-        err: "",
-    },
-    Call {
-        shows: "four senders with equal moments",
-        words: &["--window=70", "--script", "s"],
-        script: FOUR_SENDERS,
-        read_fails: 0,
-        status: 0,
-        out: FOUR_SENDERS_REPORT,
-        err: "",
-    },
-    Call {
-        shows: "show_before_host",
-        words: NAMED,
-        script: "@0 neigh show\n",
-        read_fails: 0,
-        status: 5,
-        out: "",
-        err: "neigh: script refused: 11 at line 1\n",
-    },
-    Call {
-        shows: "other_device",
-        words: NAMED,
-        script: OTHER_DEVICE,
-        read_fails: 0,
-        status: 5,
-        out: "",
-        err: "neigh: script refused: 9 at line 2\n",
-    },
-    Call {
-        shows: "empty_script",
-        words: NAMED,
-        script: "",
-        read_fails: 0,
-        status: 5,
-        out: "",
-        err: "neigh: script refused: 11 at line 1\n",
-    },
-    Call {
-        shows: "65 buckets",
-        words: &["--script", "s", "--buckets", "65"],
-        script: HOST,
-        read_fails: 0,
-        status: 2,
-        out: "",
-        err: USAGE,
-    },
-    Call {
-        shows: "no_words",
-        words: &[],
-        script: HOST,
-        read_fails: 0,
-        status: 2,
-        out: "",
-        err: USAGE,
-    },
-    Call {
-        shows: "a name that begins with a dash",
-        words: &["--script", "-s"],
-        script: HOST,
-        read_fails: 0,
-        status: 2,
-        out: "",
-        err: USAGE,
-    },
-    Call {
-        shows: "a word too many",
-        words: &["--script", "s", "s"],
-        script: HOST,
-        read_fails: 0,
-        status: 2,
-        out: "",
-        err: USAGE,
-    },
-    Call {
-        shows: "failing open",
-        words: NAMED,
-        script: HOST,
-        read_fails: 1,
-        status: 3,
-        out: "",
-        err: "neigh: cannot read s\n",
-    },
-    Call {
-        shows: "missing file",
-        words: &["--script", "t"],
-        script: HOST,
-        read_fails: 0,
-        status: 3,
-        out: "",
-        err: "neigh: cannot read t\n",
-    },
-    Call {
-        shows: "failing read",
-        words: NAMED,
-        script: HOST,
-        read_fails: 2,
-        status: 3,
-        out: "",
-        err: "neigh: cannot read s\n",
-    },
-];
-
 /// Whether the call ends as it is to.
-fn ends_so(rt: &HostRuntime, alloc: Global, call: &Call) -> Result<bool, AllocError> {
-    let script = joined(alloc, call.script, "")?;
-    let inputs = script_alone(alloc, script, &[call.read_fails])?;
-    let ending = Ending {
-        status: call.status,
-        out: call.out,
-        err: call.err,
+fn ends_so(rt: &HostRuntime, alloc: Global, case: &Case) -> Result<bool, AllocError> {
+    let Some(call) = call_of(case.call) else {
+        return Ok(false);
     };
+    let script = joined(alloc, case.script, "")?;
+    let inputs = script_alone(alloc, script, &[call.fails])?;
+    let ending = ending_of(call.status, case.report);
     ends(rt, alloc, call.words, inputs, &ending)
 }
 
-/// The first call that ends otherwise.
+/// The first case that ends otherwise, or the whole text of one that is no case.
 fn first_other_end(
     rt: &HostRuntime,
     alloc: Global,
-    calls: &[Call],
+    table: &'static str,
 ) -> Result<Option<&'static str>, AllocError> {
-    for call in calls {
-        if !ends_so(rt, alloc, call)? {
-            return Ok(Some(call.shows));
+    for text in table.split(HEAD).skip(1) {
+        let Some(case) = case_of(text) else {
+            return Ok(Some(text));
+        };
+        if !ends_so(rt, alloc, &case)? {
+            return Ok(Some(case.name));
         }
     }
     Ok(None)
@@ -359,7 +258,8 @@ fn first_other_end(
 
 #[test]
 fn calls_have_their_reports_statuses_and_lines(rt: HostRuntime) -> Result<(), Fail> {
-    assert_eq!(rt; first_other_end(&rt, rt.alloc(), &CALLS)?, None);
+    assert_eq!(rt; count_of(table()), 18);
+    assert_eq!(rt; first_other_end(&rt, rt.alloc(), table())?, None);
     Ok(())
 }
 

@@ -1,4 +1,4 @@
-//! Calls of the whole command over files that are held in memory.
+//! Calls of the whole command over files that are held in memory. The words of a call are one text, with spaces between them.
 use nb_base::{Bytes, Items};
 use nb_io::{MemoryFile, MemoryInputs, MemorySink, OpenGate};
 use neigh_replay::{NoWords, answer, run};
@@ -7,10 +7,10 @@ use std::alloc::{AllocError, Global};
 pub const HOST: &str = "host dev eth0 lladdr 02:00:00:00:00:02 inet 10.0.0.2\n";
 
 /// The words that name the script `s`.
-pub const NAMED: &[&str] = &["--script", "s"];
+pub const NAMED: &str = "--script s";
 
 /// The words that name the script `s` and the capture `c`.
-pub const BESIDE: &[&str] = &["--script", "s", "--capture", "c"];
+pub const BESIDE: &str = "--script s --capture c";
 
 pub const USAGE: &str =
     "neigh: usage: neigh --script FILE [--capture FILE] [--mode inline|threads] [--window MS] [--buckets N] | neigh --generate NUMBER\n";
@@ -21,6 +21,23 @@ pub struct Ending<'a> {
     pub status: u8,
     pub out: &'a str,
     pub err: &'a str,
+}
+
+/// The ending with this status and text, which goes to standard output at the status 0, and to standard error at any other.
+pub fn ending_of(status: u8, text: &str) -> Ending<'_> {
+    if status == 0 {
+        Ending {
+            status,
+            out: text,
+            err: "",
+        }
+    } else {
+        Ending {
+            status,
+            out: "",
+            err: text,
+        }
+    }
 }
 
 /// The ending over a sink that takes the first ten bytes alone.
@@ -37,12 +54,13 @@ pub fn joined(alloc: Global, front: &str, rest: &str) -> Result<Bytes, AllocErro
     Ok(Items::from_vec(text.into_bytes()))
 }
 
-pub fn strings(alloc: Global, words: &[&str]) -> Result<Vec<String>, AllocError> {
-    let mut strings = Vec::new(alloc);
-    for word in words {
-        strings.push(String::from_str(alloc, word)?)?;
+/// The words, between which there are spaces.
+fn words_of(alloc: Global, text: &str) -> Result<Vec<String>, AllocError> {
+    let mut words = Vec::new(alloc);
+    for word in text.split_ascii_whitespace() {
+        words.push(String::from_str(alloc, word)?)?;
     }
-    Ok(strings)
+    Ok(words)
 }
 
 fn file(alloc: Global, name: &str, bytes: Bytes) -> Result<MemoryFile, AllocError> {
@@ -110,12 +128,12 @@ fn status_without_words(
 pub fn ends_into(
     rt: &HostRuntime,
     alloc: Global,
-    words: &[&str],
+    words: &str,
     mut inputs: MemoryInputs,
     mut out: MemorySink,
     ending: &Ending,
 ) -> Result<bool, AllocError> {
-    let words = strings(alloc, words)?;
+    let words = words_of(alloc, words)?;
     let mut err = no_errors(alloc)?;
     let status = status_of(rt, alloc, &words, &mut inputs, &mut out, &mut err);
     Ok(status == ending.status && has_bytes(&out, ending.out) && has_bytes(&err, ending.err))
@@ -125,7 +143,7 @@ pub fn ends_into(
 pub fn ends(
     rt: &HostRuntime,
     alloc: Global,
-    words: &[&str],
+    words: &str,
     inputs: MemoryInputs,
     ending: &Ending,
 ) -> Result<bool, AllocError> {
@@ -137,16 +155,11 @@ pub fn ends(
 pub fn replays(
     rt: &HostRuntime,
     alloc: Global,
-    words: &[&str],
+    words: &str,
     inputs: MemoryInputs,
     report: &str,
 ) -> Result<bool, AllocError> {
-    let ending = Ending {
-        status: 0,
-        out: report,
-        err: "",
-    };
-    ends(rt, alloc, words, inputs, &ending)
+    ends(rt, alloc, words, inputs, &ending_of(0, report))
 }
 
 /// Whether the call of a command that was given no words ends so.
@@ -167,11 +180,11 @@ pub fn ends_without_words(
 pub fn report_of(
     rt: &HostRuntime,
     alloc: Global,
-    words: &[&str],
+    words: &str,
     mut inputs: MemoryInputs,
     room: u32,
 ) -> Result<Option<MemorySink>, AllocError> {
-    let words = strings(alloc, words)?;
+    let words = words_of(alloc, words)?;
     let mut out = MemorySink::new(alloc, room, 65_536, &[])?;
     let mut err = no_errors(alloc)?;
     let status = status_of(rt, alloc, &words, &mut inputs, &mut out, &mut err);

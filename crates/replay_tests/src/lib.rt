@@ -4,6 +4,10 @@
 #[cfg(test)]
 mod calls;
 #[cfg(test)]
+mod captures;
+#[cfg(test)]
+mod cases;
+#[cfg(test)]
 mod command;
 #[cfg(test)]
 mod command_words;

@@ -1,15 +1,11 @@
-//! One script under thresholds in each order, over several buckets.
-use crate::replays::Replay;
+//! One script under thresholds in each order, over several buckets. The table is cut as `cases.rt` says.
 
-pub fn replays() -> &'static [Replay] {
-    &REPLAYS
+pub fn table() -> &'static str {
+    TABLE
 }
 
-const REPLAYS: [Replay; 6] = [
-    Replay {
-        shows: "thresholds_2_3_4_over_2_buckets",
-        words: &["--script", "s", "--buckets", "2"],
-        script: "\
+const TABLE: &str = "\
+== thresholds_2_3_4_over_2_buckets: --script s --buckets 2
 host dev eth0 lladdr 02:00:00:00:00:02 inet 10.0.0.2
 param gc_thresh1 2
 param gc_thresh2 3
@@ -24,9 +20,7 @@ param gc_stale_time 10
 @5000 neigh add 10.0.0.16 lladdr 00:11:22:33:44:55 nud stale
 @5001 neigh add 10.0.0.17 lladdr 00:11:22:33:44:55 nud stale
 @10000 neigh show
-",
-        records: "",
-        report: "\
+-- report
 neigh 1 mode inline buckets 2 senders 1 window 50
 host dev eth0 lladdr 02:00:00:00:00:02 inet 10.0.0.2
 bucket 0 lines 9
@@ -78,12 +72,7 @@ table 1
 10.0.0.13 dev eth0 lladdr 00:11:22:33:44:77 PERMANENT
 proxies 0
 end
-",
-    },
-    Replay {
-        shows: "thresholds_2_4_3_over_4_buckets",
-        words: &["--script", "s", "--buckets", "4"],
-        script: "\
+== thresholds_2_4_3_over_4_buckets: --script s --buckets 4
 host dev eth0 lladdr 02:00:00:00:00:02 inet 10.0.0.2
 param gc_thresh1 2
 param gc_thresh2 4
@@ -98,9 +87,7 @@ param gc_stale_time 10
 @5000 neigh add 10.0.0.16 lladdr 00:11:22:33:44:55 nud stale
 @5001 neigh add 10.0.0.17 lladdr 00:11:22:33:44:55 nud stale
 @10000 neigh show
-",
-        records: "",
-        report: "\
+-- report
 neigh 1 mode inline buckets 4 senders 1 window 50
 host dev eth0 lladdr 02:00:00:00:00:02 inet 10.0.0.2
 bucket 0 lines 4
@@ -151,12 +138,7 @@ table 1
 10.0.0.13 dev eth0 lladdr 00:11:22:33:44:77 PERMANENT
 proxies 0
 end
-",
-    },
-    Replay {
-        shows: "thresholds_3_2_4_over_8_buckets",
-        words: &["--script", "s", "--buckets", "8"],
-        script: "\
+== thresholds_3_2_4_over_8_buckets: --script s --buckets 8
 host dev eth0 lladdr 02:00:00:00:00:02 inet 10.0.0.2
 param gc_thresh1 3
 param gc_thresh2 2
@@ -171,9 +153,7 @@ param gc_stale_time 10
 @5000 neigh add 10.0.0.16 lladdr 00:11:22:33:44:55 nud stale
 @5001 neigh add 10.0.0.17 lladdr 00:11:22:33:44:55 nud stale
 @10000 neigh show
-",
-        records: "",
-        report: "\
+-- report
 neigh 1 mode inline buckets 8 senders 1 window 50
 host dev eth0 lladdr 02:00:00:00:00:02 inet 10.0.0.2
 bucket 0 lines 3
@@ -249,12 +229,7 @@ table 2
 10.0.0.14 dev eth0 FAILED
 proxies 0
 end
-",
-    },
-    Replay {
-        shows: "thresholds_3_4_2_over_2_buckets",
-        words: &["--script", "s", "--buckets", "2"],
-        script: "\
+== thresholds_3_4_2_over_2_buckets: --script s --buckets 2
 host dev eth0 lladdr 02:00:00:00:00:02 inet 10.0.0.2
 param gc_thresh1 3
 param gc_thresh2 4
@@ -269,9 +244,7 @@ param gc_stale_time 10
 @5000 neigh add 10.0.0.16 lladdr 00:11:22:33:44:55 nud stale
 @5001 neigh add 10.0.0.17 lladdr 00:11:22:33:44:55 nud stale
 @10000 neigh show
-",
-        records: "",
-        report: "\
+-- report
 neigh 1 mode inline buckets 2 senders 1 window 50
 host dev eth0 lladdr 02:00:00:00:00:02 inet 10.0.0.2
 bucket 0 lines 5
@@ -316,12 +289,7 @@ table 2
 10.0.0.11 dev eth0 lladdr 00:11:22:33:44:55 STALE
 proxies 0
 end
-",
-    },
-    Replay {
-        shows: "thresholds_4_2_3_over_4_buckets",
-        words: &["--script", "s", "--buckets", "4"],
-        script: "\
+== thresholds_4_2_3_over_4_buckets: --script s --buckets 4
 host dev eth0 lladdr 02:00:00:00:00:02 inet 10.0.0.2
 param gc_thresh1 4
 param gc_thresh2 2
@@ -336,9 +304,7 @@ param gc_stale_time 10
 @5000 neigh add 10.0.0.16 lladdr 00:11:22:33:44:55 nud stale
 @5001 neigh add 10.0.0.17 lladdr 00:11:22:33:44:55 nud stale
 @10000 neigh show
-",
-        records: "",
-        report: "\
+-- report
 neigh 1 mode inline buckets 4 senders 1 window 50
 host dev eth0 lladdr 02:00:00:00:00:02 inet 10.0.0.2
 bucket 0 lines 4
@@ -393,12 +359,7 @@ table 3
 10.0.0.11 dev eth0 lladdr 00:11:22:33:44:55 STALE
 proxies 0
 end
-",
-    },
-    Replay {
-        shows: "thresholds_4_3_2_over_8_buckets",
-        words: &["--script", "s", "--buckets", "8"],
-        script: "\
+== thresholds_4_3_2_over_8_buckets: --script s --buckets 8
 host dev eth0 lladdr 02:00:00:00:00:02 inet 10.0.0.2
 param gc_thresh1 4
 param gc_thresh2 3
@@ -413,9 +374,7 @@ param gc_stale_time 10
 @5000 neigh add 10.0.0.16 lladdr 00:11:22:33:44:55 nud stale
 @5001 neigh add 10.0.0.17 lladdr 00:11:22:33:44:55 nud stale
 @10000 neigh show
-",
-        records: "",
-        report: "\
+-- report
 neigh 1 mode inline buckets 8 senders 1 window 50
 host dev eth0 lladdr 02:00:00:00:00:02 inet 10.0.0.2
 bucket 0 lines 3
@@ -484,6 +443,4 @@ table 2
 10.0.0.12 dev eth0 lladdr 00:11:22:33:44:55 STALE
 proxies 0
 end
-",
-    },
-];
+";

@@ -1,15 +1,11 @@
-//! Scripts and captures over several buckets.
-use crate::replays::Replay;
+//! Scripts and captures over several buckets. The table is cut as `cases.rt` says.
 
-pub fn replays() -> &'static [Replay] {
-    &REPLAYS
+pub fn table() -> &'static str {
+    TABLE
 }
 
-const REPLAYS: [Replay; 6] = [
-    Replay {
-        shows: "flush_over_four_buckets",
-        words: &["--script", "s", "--buckets", "4"],
-        script: "\
+const TABLE: &str = "\
+== flush_over_four_buckets: --script s --buckets 4
 host dev eth0 lladdr 02:00:00:00:00:02 inet 10.0.0.2
 @0 neigh add 10.0.0.4 lladdr 00:11:22:33:44:55 nud stale
 @0 neigh add 10.0.0.5 lladdr 00:11:22:33:44:55 nud stale
@@ -19,9 +15,7 @@ host dev eth0 lladdr 02:00:00:00:00:02 inet 10.0.0.2
 @0 neigh add 10.0.0.9 lladdr 00:11:22:33:44:55 nud permanent
 @1 neigh flush
 @1 neigh show
-",
-        records: "",
-        report: "\
+-- report
 neigh 1 mode inline buckets 4 senders 1 window 50
 host dev eth0 lladdr 02:00:00:00:00:02 inet 10.0.0.2
 bucket 0 lines 4
@@ -65,12 +59,7 @@ table 1
 10.0.0.9 dev eth0 lladdr 00:11:22:33:44:55 PERMANENT
 proxies 0
 end
-",
-    },
-    Replay {
-        shows: "buckets_by_the_last_byte",
-        words: &["--script", "s", "--buckets", "64"],
-        script: "\
+== buckets_by_the_last_byte: --script s --buckets 64
 host dev eth0 lladdr 02:00:00:00:00:02 inet 10.0.0.2 inet6 fe80::2
 @0 neigh add 10.0.0.64 lladdr 00:11:22:33:44:55 nud permanent
 @0 neigh add 10.0.0.63 lladdr 00:11:22:33:44:55 nud permanent
@@ -79,9 +68,7 @@ host dev eth0 lladdr 02:00:00:00:00:02 inet 10.0.0.2 inet6 fe80::2
 @0 neigh add 10.0.0.128 lladdr 00:11:22:33:44:55 nud permanent
 @0 neigh add fe80::1:3f lladdr 00:11:22:33:44:55
 @0 neigh add 2001:db8::1 lladdr 00:11:22:33:44:66
-",
-        records: "",
-        report: "\
+-- report
 neigh 1 mode inline buckets 64 senders 1 window 50
 host dev eth0 lladdr 02:00:00:00:00:02 inet 10.0.0.2 inet6 fe80::2
 bucket 0 lines 2
@@ -183,19 +170,12 @@ table 7
 fe80::1:3f dev eth0 lladdr 00:11:22:33:44:55 PERMANENT
 proxies 0
 end
-",
-    },
-    Replay {
-        shows: "timers_of_two_buckets",
-        words: &["--script", "s", "--buckets", "2"],
-        script: "\
+== timers_of_two_buckets: --script s --buckets 2
 host dev eth0 lladdr 02:00:00:00:00:02 inet 10.0.0.2
 @0 send 1 10.0.0.11 01
 @0 send 1 10.0.0.12 02
 @2500 confirm 10.0.0.12
-",
-        records: "",
-        report: "\
+-- report
 neigh 1 mode inline buckets 2 senders 1 window 50
 host dev eth0 lladdr 02:00:00:00:00:02 inet 10.0.0.2
 bucket 0 lines 4
@@ -225,12 +205,7 @@ table 2
 10.0.0.11 dev eth0 INCOMPLETE
 proxies 0
 end
-",
-    },
-    Replay {
-        shows: "senders_and_their_buckets",
-        words: &["--script", "s", "--buckets", "16"],
-        script: "\
+== senders_and_their_buckets: --script s --buckets 16
 host dev eth0 lladdr 02:00:00:00:00:02 inet 10.0.0.2
 senders 3
 @0 send 3 10.0.0.11 0a
@@ -239,9 +214,7 @@ senders 3
 @1 neigh replace 10.0.0.11 lladdr 00:11:22:33:44:55 nud reachable
 @1 send 1 10.0.0.11 0d
 @1 send 2 10.0.0.12 0e
-",
-        records: "",
-        report: "\
+-- report
 neigh 1 mode inline buckets 16 senders 3 window 50
 host dev eth0 lladdr 02:00:00:00:00:02 inet 10.0.0.2
 bucket 0 lines 0
@@ -296,24 +269,17 @@ table 3
 10.0.0.15 dev eth0 INCOMPLETE
 proxies 0
 end
-",
-    },
-    Replay {
-        shows: "heard_in_their_buckets",
-        words: &["--script", "s", "--capture", "c", "--buckets", "32"],
-        script: "\
+== heard_in_their_buckets: --script s --capture c --buckets 32
 host dev eth0 lladdr 02:00:00:00:00:02 inet 10.0.0.2
 param gc_thresh3 2
 @0 neigh add 10.0.0.12 lladdr 00:11:22:33:44:55 nud stale
-",
-        records: "\
+-- records
 0 ffffffffffff001122334455080600010800060400010011223344550a0000070000000000000a000002
 0 ffffffffffff001122334466080600010800060400010011223344660a0000080000000000000a000002
 1 020000000002001122334466080600010800060400020011223344660a00000c0200000000020a000002
 2 020000000002001122334466080600010800060400020011223344660a0000090200000000020a000002
 1001 020000000002001122334466080600010800060400020011223344660a00000c0200000000020a000002
-",
-        report: "\
+-- report
 neigh 1 mode inline buckets 32 senders 1 window 50
 host dev eth0 lladdr 02:00:00:00:00:02 inet 10.0.0.2
 bucket 0 lines 0
@@ -372,25 +338,18 @@ table 2
 10.0.0.12 dev eth0 lladdr 00:11:22:33:44:66 REACHABLE
 proxies 0
 end
-",
-    },
-    Replay {
-        shows: "discovery_and_proxies_over_two_buckets",
-        words: &["--script", "s", "--capture", "c", "--buckets", "2"],
-        script: "\
+== discovery_and_proxies_over_two_buckets: --script s --capture c --buckets 2
 host dev eth0 lladdr 02:00:00:00:00:02 inet 10.0.0.2 inet6 fe80::2
 param proxy_delay 10
 @0 neigh add proxy fe80::9
 @0 send 1 fe80::1 01
 @0 send 1 fe80::4 02
 @20 neigh show
-",
-        records: "\
+-- records
 0 3333ff00000900112233445586dd6000000000203afffe800000000000000000000000000001ff0200000000000000000001ff000009870015f100000000fe8000000000000000000000000000090101001122334455
 1 3333ff00000200112233447786dd6000000000203afffe800000000000000000000000000004ff0200000000000000000001ff000002870015da00000000fe8000000000000000000000000000020101001122334477
 2 02000000000200112233445586dd6000000000203afffe800000000000000000000000000001fe80000000000000000000000000000288003383e0000000fe8000000000000000000000000000010201001122334455
-",
-        report: "\
+-- report
 neigh 1 mode inline buckets 2 senders 1 window 50
 host dev eth0 lladdr 02:00:00:00:00:02 inet 10.0.0.2 inet6 fe80::2
 bucket 0 lines 3
@@ -429,6 +388,4 @@ fe80::1 dev eth0 lladdr 00:11:22:33:44:55 router REACHABLE
 proxies 1
 fe80::9 dev eth0 proxy
 end
-",
-    },
-];
+";

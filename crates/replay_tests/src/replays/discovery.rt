@@ -1,24 +1,18 @@
-//! Captures of neighbour discovery.
-use crate::replays::Replay;
+//! Captures of neighbour discovery. The table is cut as `cases.rt` says.
 
-pub fn replays() -> &'static [Replay] {
-    &REPLAYS
+pub fn table() -> &'static str {
+    TABLE
 }
 
-const REPLAYS: [Replay; 12] = [
-    Replay {
-        shows: "advert_without_override",
-        words: &["--script", "s", "--capture", "c"],
-        script: "\
+const TABLE: &str = "\
+== advert_without_override: --script s --capture c
 host dev eth0 lladdr 02:00:00:00:00:02 inet 10.0.0.2 inet6 fe80::2
 @0 neigh add fe80::1 lladdr 00:11:22:33:44:55 nud reachable
-",
-        records: "\
+-- records
 0 0200000000020011223344550800
 100 02000000000200112233446686dd6000000000203afffe800000000000000000000000000001fe8000000000000000000000000000028800d37240000000fe8000000000000000000000000000010201001122334466
 200 02000000000200112233446686dd6000000000203afffe800000000000000000000000000001fe8000000000000000000000000000028800d37240000000fe8000000000000000000000000000010201001122334466
-",
-        report: "\
+-- report
 neigh 1 mode inline buckets 1 senders 1 window 50
 host dev eth0 lladdr 02:00:00:00:00:02 inet 10.0.0.2 inet6 fe80::2
 bucket 0 lines 3
@@ -37,23 +31,16 @@ table 1
 fe80::1 dev eth0 lladdr 00:11:22:33:44:55 STALE
 proxies 0
 end
-",
-    },
-    Replay {
-        shows: "advert_sends_what_waits",
-        words: &["--script", "s", "--capture", "c"],
-        script: "\
+== advert_sends_what_waits: --script s --capture c
 host dev eth0 lladdr 02:00:00:00:00:02 inet 10.0.0.2 inet6 fe80::2
 @0 send 1 fe80::1 01
 @0 send 1 fe80::1 02
 @400 neigh show
-",
-        records: "\
+-- records
 0 0200000000020011223344550800
 200 02000000000200112233445586dd6000000000183afffe800000000000000000000000000001fe80000000000000000000000000000288001c2660000000fe800000000000000000000000000001
 300 02000000000200112233445586dd6000000000203afffe800000000000000000000000000001fe80000000000000000000000000000288003383e0000000fe8000000000000000000000000000010201001122334455
-",
-        report: "\
+-- report
 neigh 1 mode inline buckets 1 senders 1 window 50
 host dev eth0 lladdr 02:00:00:00:00:02 inet 10.0.0.2 inet6 fe80::2
 bucket 0 lines 5
@@ -82,23 +69,16 @@ table 1
 fe80::1 dev eth0 lladdr 00:11:22:33:44:55 router REACHABLE
 proxies 0
 end
-",
-    },
-    Replay {
-        shows: "advert_that_is_not_solicited_makes_stale",
-        words: &["--script", "s", "--capture", "c"],
-        script: "\
+== advert_that_is_not_solicited_makes_stale: --script s --capture c
 host dev eth0 lladdr 02:00:00:00:00:02 inet 10.0.0.2 inet6 fe80::2
 @0 send 1 fe80::1 01
 @400 neigh show
 @500 send 1 fe80::1 02
 @501 neigh show
-",
-        records: "\
+-- records
 0 0200000000020011223344550800
 300 33330000000100112233445586dd6000000000203afffe800000000000000000000000000001ff0200000000000000000000000000018800130300000000fe8000000000000000000000000000010201001122334455
-",
-        report: "\
+-- report
 neigh 1 mode inline buckets 1 senders 1 window 50
 host dev eth0 lladdr 02:00:00:00:00:02 inet 10.0.0.2 inet6 fe80::2
 bucket 0 lines 5
@@ -127,27 +107,20 @@ table 1
 fe80::1 dev eth0 lladdr 00:11:22:33:44:55 DELAY
 proxies 0
 end
-",
-    },
-    Replay {
-        shows: "router_mark_comes_and_goes",
-        words: &["--script", "s", "--capture", "c"],
-        script: "\
+== router_mark_comes_and_goes: --script s --capture c
 host dev eth0 lladdr 02:00:00:00:00:02 inet 10.0.0.2 inet6 fe80::2
 @0 neigh add fe80::1 lladdr 00:11:22:33:44:55 nud stale
 @101 neigh show
 @201 neigh show
 @301 neigh show
 @401 neigh show
-",
-        records: "\
+-- records
 0 0200000000020011223344550800
 100 02000000000200112233445586dd6000000000203afffe800000000000000000000000000001fe8000000000000000000000000000028800938380000000fe8000000000000000000000000000010201001122334455
 200 02000000000200112233446686dd6000000000203afffe800000000000000000000000000001fe8000000000000000000000000000028800137300000000fe8000000000000000000000000000010201001122334466
 300 02000000000200112233445586dd6000000000203afffe800000000000000000000000000001fe8000000000000000000000000000028800138400000000fe8000000000000000000000000000010201001122334455
 400 02000000000200112233445586dd6000000000183afffe800000000000000000000000000001fe8000000000000000000000000000028800bc25c0000000fe800000000000000000000000000001
-",
-        report: "\
+-- report
 neigh 1 mode inline buckets 1 senders 1 window 50
 host dev eth0 lladdr 02:00:00:00:00:02 inet 10.0.0.2 inet6 fe80::2
 bucket 0 lines 9
@@ -182,12 +155,7 @@ table 1
 fe80::1 dev eth0 lladdr 00:11:22:33:44:55 router REACHABLE
 proxies 0
 end
-",
-    },
-    Replay {
-        shows: "failed_entry_keeps_its_mark",
-        words: &["--script", "s", "--capture", "c"],
-        script: "\
+== failed_entry_keeps_its_mark: --script s --capture c
 host dev eth0 lladdr 02:00:00:00:00:02 inet 10.0.0.2 inet6 fe80::2
 param ucast_solicit 1
 param delay_first_probe_time 10
@@ -197,12 +165,10 @@ param delay_first_probe_time 10
 @2001 neigh del fe80::1
 @2001 neigh add fe80::1 lladdr 00:11:22:33:44:55
 @2002 neigh show
-",
-        records: "\
+-- records
 0 0200000000020011223344550800
 100 02000000000200112233445586dd6000000000203afffe800000000000000000000000000001fe80000000000000000000000000000288007383a0000000fe8000000000000000000000000000010201001122334455
-",
-        report: "\
+-- report
 neigh 1 mode inline buckets 1 senders 1 window 50
 host dev eth0 lladdr 02:00:00:00:00:02 inet 10.0.0.2 inet6 fe80::2
 bucket 0 lines 9
@@ -235,23 +201,16 @@ table 1
 fe80::1 dev eth0 lladdr 00:11:22:33:44:55 PERMANENT
 proxies 0
 end
-",
-    },
-    Replay {
-        shows: "override_takes_the_new_address",
-        words: &["--script", "s", "--capture", "c"],
-        script: "\
+== override_takes_the_new_address: --script s --capture c
 host dev eth0 lladdr 02:00:00:00:00:02 inet 10.0.0.2 inet6 fe80::2
 @0 neigh add fe80::1 lladdr 00:11:22:33:44:55 nud reachable
 @150 neigh show
 @250 neigh show
-",
-        records: "\
+-- records
 0 0200000000020011223344550800
 100 02000000000200112233446686dd6000000000203afffe800000000000000000000000000001fe8000000000000000000000000000028800f37220000000fe8000000000000000000000000000010201001122334466
 200 02000000000200112233447786dd6000000000203afffe800000000000000000000000000001fe8000000000000000000000000000028800b36160000000fe8000000000000000000000000000010201001122334477
-",
-        report: "\
+-- report
 neigh 1 mode inline buckets 1 senders 1 window 50
 host dev eth0 lladdr 02:00:00:00:00:02 inet 10.0.0.2 inet6 fe80::2
 bucket 0 lines 5
@@ -276,26 +235,19 @@ table 1
 fe80::1 dev eth0 lladdr 00:11:22:33:44:77 REACHABLE
 proxies 0
 end
-",
-    },
-    Replay {
-        shows: "adverts_without_effect",
-        words: &["--script", "s", "--capture", "c"],
-        script: "\
+== adverts_without_effect: --script s --capture c
 host dev eth0 lladdr 02:00:00:00:00:02 inet 10.0.0.2 inet6 fe80::2
 @0 neigh add fe80::1 lladdr 00:11:22:33:44:55 nud permanent
 @0 neigh add fe80::3 lladdr 00:11:22:33:44:55 nud stale
 @10 neigh show
-",
-        records: "\
+-- records
 0 0200000000020011223344550800
 1 02000000000200112233446686dd6000000000203afffe800000000000000000000000000001fe80000000000000000000000000000288003372e0000000fe8000000000000000000000000000010201001122334466
 2 02000000000200112233446686dd6000000000203afffe800000000000000000000000000003fe8000000000000000000000000000028800d36e40000000fe8000000000000000000000000000030201001122334466
 3 02000000000200112233446686dd6000000000203afffe800000000000000000000000000005fe8000000000000000000000000000028800336ae0000000fe8000000000000000000000000000050201001122334466
 4 02000000000200112233446686dd6000000000203afffe800000000000000000000000000005fe8000000000000000000000000000028800b36d60000000fe8000000000000000000000000000020201001122334466
 5 02000000000200112233446686dd6000000000203afffe800000000000000000000000000005fe8000000000000000000000000000028800f1e020000000001000000000000000000000000000000201001122334466
-",
-        report: "\
+-- report
 neigh 1 mode inline buckets 1 senders 1 window 50
 host dev eth0 lladdr 02:00:00:00:00:02 inet 10.0.0.2 inet6 fe80::2
 bucket 0 lines 7
@@ -326,18 +278,11 @@ fe80::1 dev eth0 lladdr 00:11:22:33:44:55 PERMANENT
 fe80::3 dev eth0 lladdr 00:11:22:33:44:55 STALE
 proxies 0
 end
-",
-    },
-    Replay {
-        shows: "solicitation_is_answered_and_learnt",
-        words: &["--script", "s", "--capture", "c"],
-        script: "\
+== solicitation_is_answered_and_learnt: --script s --capture c
 host dev eth0 lladdr 02:00:00:00:00:02 inet 10.0.0.2 inet6 fe80::2
-",
-        records: "\
+-- records
 0 3333ff00000200112233445586dd6000000000203afffe800000000000000000000000000001ff0200000000000000000001ff000002870015ff00000000fe8000000000000000000000000000020101001122334455
-",
-        report: "\
+-- report
 neigh 1 mode inline buckets 1 senders 1 window 50
 host dev eth0 lladdr 02:00:00:00:00:02 inet 10.0.0.2 inet6 fe80::2
 bucket 0 lines 1
@@ -351,23 +296,16 @@ table 1
 fe80::1 dev eth0 lladdr 00:11:22:33:44:55 STALE
 proxies 0
 end
-",
-    },
-    Replay {
-        shows: "solicitations_that_are_not_learnt",
-        words: &["--script", "s", "--capture", "c"],
-        script: "\
+== solicitations_that_are_not_learnt: --script s --capture c
 host dev eth0 lladdr 02:00:00:00:00:02 inet 10.0.0.2 inet6 fe80::2
 @0 neigh add fe80::3 lladdr 00:11:22:33:44:55 nud reachable
-",
-        records: "\
+-- records
 0 3333ff00000200112233446686dd6000000000183afffe800000000000000000000000000001ff0200000000000000000001ff00000287007da100000000fe800000000000000000000000000002
 1 3333ff00000200112233445586dd6000000000183aff00000000000000000000000000000000ff0200000000000000000001ff00000287007c2300000000fe800000000000000000000000000002
 2 3333ff00000500112233446686dd6000000000203afffe800000000000000000000000000003ff0200000000000000000001ff000005870015e600000000fe8000000000000000000000000000050101001122334466
 3 3333ff00000200112233446686dd6000000000203affff020000000000000000000000000001ff0200000000000000000001ff0000028700156c00000000fe8000000000000000000000000000020101001122334466
 4 3333ff00000200112233446686dd6000000000203afffe800000000000000000000000000002ff0200000000000000000001ff000002870015ed00000000fe8000000000000000000000000000020101001122334466
-",
-        report: "\
+-- report
 neigh 1 mode inline buckets 1 senders 1 window 50
 host dev eth0 lladdr 02:00:00:00:00:02 inet 10.0.0.2 inet6 fe80::2
 bucket 0 lines 1
@@ -386,24 +324,17 @@ table 1
 fe80::3 dev eth0 lladdr 00:11:22:33:44:55 REACHABLE
 proxies 0
 end
-",
-    },
-    Replay {
-        shows: "solicitation_makes_another_address_stale",
-        words: &["--script", "s", "--capture", "c"],
-        script: "\
+== solicitation_makes_another_address_stale: --script s --capture c
 host dev eth0 lladdr 02:00:00:00:00:02 inet 10.0.0.2 inet6 fe80::2
 @0 neigh add fe80::1 lladdr 00:11:22:33:44:55 nud reachable
 @0 neigh add fe80::3 lladdr 00:11:22:33:44:55 nud reachable
 @5 send 1 fe80::5 01
-",
-        records: "\
+-- records
 0 0200000000020011223344550800
 1 3333ff00000200112233446686dd6000000000203afffe800000000000000000000000000001ff0200000000000000000001ff000002870015ee00000000fe8000000000000000000000000000020101001122334466
 2 3333ff00000200112233445586dd6000000000203afffe800000000000000000000000000003ff0200000000000000000001ff000002870015fd00000000fe8000000000000000000000000000020101001122334455
 6 02000000000200112233446686dd6000000000203afffe800000000000000000000000000005fe8000000000000000000000000000028700155d00000000fe8000000000000000000000000000020101001122334477
-",
-        report: "\
+-- report
 neigh 1 mode inline buckets 1 senders 1 window 50
 host dev eth0 lladdr 02:00:00:00:00:02 inet 10.0.0.2 inet6 fe80::2
 bucket 0 lines 6
@@ -433,19 +364,12 @@ fe80::3 dev eth0 lladdr 00:11:22:33:44:55 REACHABLE
 fe80::5 dev eth0 lladdr 00:11:22:33:44:77 STALE
 proxies 0
 end
-",
-    },
-    Replay {
-        shows: "bad_checksum_and_zero_option",
-        words: &["--script", "s", "--capture", "c"],
-        script: "\
+== bad_checksum_and_zero_option: --script s --capture c
 host dev eth0 lladdr 02:00:00:00:00:02 inet 10.0.0.2 inet6 fe80::2
-",
-        records: "\
+-- records
 0 3333ff00000200112233445586dd6000000000203afffe800000000000000000000000000001ff0200000000000000000001ff000002870014ff00000000fe8000000000000000000000000000020101001122334455
 0 3333ff00000200112233445586dd6000000000203afffe800000000000000000000000000001ff0200000000000000000001ff0000028700160000000000fe8000000000000000000000000000020100001122334455
-",
-        report: "\
+-- report
 neigh 1 mode inline buckets 1 senders 1 window 50
 host dev eth0 lladdr 02:00:00:00:00:02 inet 10.0.0.2 inet6 fe80::2
 bucket 0 lines 0
@@ -458,21 +382,14 @@ fates sent 0 fast 0 dropped 0 waiting 0
 table 0
 proxies 0
 end
-",
-    },
-    Replay {
-        shows: "host_of_one_family_hears_the_other_without_effect",
-        words: &["--script", "s", "--capture", "c"],
-        script: "\
+== host_of_one_family_hears_the_other_without_effect: --script s --capture c
 host dev eth0 lladdr 02:00:00:00:00:02 inet6 fe80::2
 @0 neigh add proxy fe80::9
-",
-        records: "\
+-- records
 0 ffffffffffff001122334455080600010800060400010011223344550a0000070000000000000a000002
 1 3333ff00000200112233445586dd6000000000203afffe800000000000000000000000000001ff0200000000000000000001ff000002870015ff00000000fe8000000000000000000000000000020101001122334455
 2 020000000002001122334455080600010800060400020011223344550a0000070200000000020a000002
-",
-        report: "\
+-- report
 neigh 1 mode inline buckets 1 senders 1 window 50
 host dev eth0 lladdr 02:00:00:00:00:02 inet6 fe80::2
 bucket 0 lines 1
@@ -490,6 +407,4 @@ fe80::1 dev eth0 lladdr 00:11:22:33:44:55 STALE
 proxies 1
 fe80::9 dev eth0 proxy
 end
-",
-    },
-];
+";

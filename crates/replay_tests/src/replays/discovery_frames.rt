@@ -1,7 +1,15 @@
 //! Single frames of neighbour discovery, and what the host's journal says of each.
 
+pub fn script() -> &'static str {
+    SCRIPT
+}
+
+pub fn rows() -> &'static str {
+    FRAMES
+}
+
 /// A host with one neighbour and two proxies.
-pub const FRAMES_SCRIPT: &str = "\
+const SCRIPT: &str = "\
 host dev eth0 lladdr 02:00:00:00:00:02 inet 10.0.0.2 inet6 fe80::2
 @0 neigh add fe80::1 lladdr 00:11:22:33:44:55 nud stale
 @0 neigh add proxy fe80::9
@@ -9,7 +17,7 @@ host dev eth0 lladdr 02:00:00:00:00:02 inet 10.0.0.2 inet6 fe80::2
 ";
 
 /// The line of the host's journal, a bar, and the frame.
-pub const FRAMES: &str = "\
+const FRAMES: &str = "\
 4 0 frame ndbad1|02000000000200112233445586dd
 4 0 frame ndbad1|3333ff00000200112233445586dd6000000000203afffe800000000000000000000000000001ff0200000000000000000001ff0000
 4 0 frame ndbad1|3333ff00000200112233445586dd4000000000203afffe800000000000000000000000000001ff0200000000000000000001ff000002870015ff00000000fe8000000000000000000000000000020101001122334455

@@ -1,13 +1,21 @@
 //! Single frames, and what the host's journal says of each.
 
+pub fn script() -> &'static str {
+    SCRIPT
+}
+
+pub fn rows() -> &'static str {
+    FRAMES
+}
+
 /// A host with one neighbour.
-pub const FRAMES_SCRIPT: &str = "\
+const SCRIPT: &str = "\
 host dev eth0 lladdr 02:00:00:00:00:02 inet 10.0.0.2
 @0 neigh add 10.0.0.1 lladdr 00:11:22:33:44:55 nud stale
 ";
 
 /// The line of the host's journal, a bar, and the frame.
-pub const FRAMES: &str = "\
+const FRAMES: &str = "\
 2 0 frame short|
 2 0 frame short|ff
 2 0 frame short|ffffffffffff00112233445508

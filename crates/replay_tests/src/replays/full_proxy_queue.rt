@@ -1,6 +1,6 @@
 //! A queue of proxy requests that fills.
+use crate::captures::capture_of;
 use crate::command::{BESIDE, HOST, replays, script_and_capture};
-use crate::replays::capture_of;
 use std::alloc::{AllocError, Global};
 use std::fmt::Write;
 use std::test::Fail;
@@ -50,11 +50,9 @@ fn report(alloc: Global) -> Result<String, AllocError> {
 }
 
 /// A proxy, and a look a second later.
-const SCRIPT: &str = "\
-host dev eth0 lladdr 02:00:00:00:00:02 inet 10.0.0.2
-@0 neigh add proxy 10.0.0.9
-@1000 neigh show
-";
+fn script(alloc: Global) -> Result<String, AllocError> {
+    format!(in alloc; "{HOST}@0 neigh add proxy 10.0.0.9\n@1000 neigh show\n")
+}
 
 /// A capture of 65 requests.
 fn requests(alloc: Global) -> Result<Vec<u8>, Fail> {
@@ -68,7 +66,8 @@ fn requests(alloc: Global) -> Result<Vec<u8>, Fail> {
 #[test]
 fn proxy_queue_of_64(rt: HostRuntime) -> Result<(), Fail> {
     let alloc = rt.alloc();
-    let inputs = script_and_capture(alloc, SCRIPT, requests(alloc)?, &[])?;
+    let script = script(alloc)?;
+    let inputs = script_and_capture(alloc, &script, requests(alloc)?, &[])?;
     let report = report(alloc)?;
     assert!(rt; replays(&rt, alloc, BESIDE, inputs, &report)?);
     Ok(())

@@ -1,21 +1,15 @@
-//! Captures of hosts that ask and answer by ARP.
-use crate::replays::Replay;
+//! Captures of hosts that ask and answer by ARP. The table is cut as `cases.rt` says.
 
-pub fn replays() -> &'static [Replay] {
-    &REPLAYS
+pub fn table() -> &'static str {
+    TABLE
 }
 
-const REPLAYS: [Replay; 9] = [
-    Replay {
-        shows: "request_is_answered_and_learnt",
-        words: &["--script", "s", "--capture", "c"],
-        script: "\
+const TABLE: &str = "\
+== request_is_answered_and_learnt: --script s --capture c
 host dev eth0 lladdr 02:00:00:00:00:02 inet 10.0.0.2
-",
-        records: "\
+-- records
 0 ffffffffffff001122334455080600010800060400010011223344550a0000070000000000000a000002000000000000000000000000000000000000
-",
-        report: "\
+-- report
 neigh 1 mode inline buckets 1 senders 1 window 50
 host dev eth0 lladdr 02:00:00:00:00:02 inet 10.0.0.2
 bucket 0 lines 1
@@ -29,21 +23,14 @@ table 1
 10.0.0.7 dev eth0 lladdr 00:11:22:33:44:55 STALE
 proxies 0
 end
-",
-    },
-    Replay {
-        shows: "locktime_holds_the_address",
-        words: &["--script", "s", "--capture", "c"],
-        script: "\
+== locktime_holds_the_address: --script s --capture c
 host dev eth0 lladdr 02:00:00:00:00:02 inet 10.0.0.2
 @0 neigh add 10.0.0.1 lladdr 00:11:22:33:44:55 nud stale
-",
-        records: "\
+-- records
 0 0200000000020011223344550800
 1000 020000000002001122334466080600010800060400020011223344660a0000010200000000020a000002
 1001 020000000002001122334466080600010800060400020011223344660a0000010200000000020a000002
-",
-        report: "\
+-- report
 neigh 1 mode inline buckets 1 senders 1 window 50
 host dev eth0 lladdr 02:00:00:00:00:02 inet 10.0.0.2
 bucket 0 lines 3
@@ -62,21 +49,14 @@ table 1
 10.0.0.1 dev eth0 lladdr 00:11:22:33:44:66 REACHABLE
 proxies 0
 end
-",
-    },
-    Replay {
-        shows: "delay_then_unicast_probe",
-        words: &["--script", "s", "--capture", "c"],
-        script: "\
+== delay_then_unicast_probe: --script s --capture c
 host dev eth0 lladdr 02:00:00:00:00:02 inet 10.0.0.2
 @0 neigh add 10.0.0.1 lladdr 00:11:22:33:44:55 nud stale
 @0 send 1 10.0.0.1 4500
-",
-        records: "\
+-- records
 0 0200000000020011223344550800
 5500 020000000002001122334455080600010800060400020011223344550a0000010200000000020a000002
-",
-        report: "\
+-- report
 neigh 1 mode inline buckets 1 senders 1 window 50
 host dev eth0 lladdr 02:00:00:00:00:02 inet 10.0.0.2
 bucket 0 lines 4
@@ -98,24 +78,17 @@ table 1
 10.0.0.1 dev eth0 lladdr 00:11:22:33:44:55 REACHABLE
 proxies 0
 end
-",
-    },
-    Replay {
-        shows: "reply_sends_what_waits",
-        words: &["--script", "s", "--capture", "c"],
-        script: "\
+== reply_sends_what_waits: --script s --capture c
 host dev eth0 lladdr 02:00:00:00:00:02 inet 10.0.0.2
 @0 send 1 10.0.0.1 01
 @0 send 1 10.0.0.1 02
 @600 neigh show
-",
-        records: "\
+-- records
 0 0200000000020011223344550800
 0 020000000002001122334477080600010800060400020011223344770a0000030200000000020a000002
 400 ffffffffffff001122334477080600010800060400010011223344770a0000040000000000000a000001
 500 020000000002001122334455080600010800060400020011223344550a0000010200000000020a000002
-",
-        report: "\
+-- report
 neigh 1 mode inline buckets 1 senders 1 window 50
 host dev eth0 lladdr 02:00:00:00:00:02 inet 10.0.0.2
 bucket 0 lines 6
@@ -146,21 +119,14 @@ table 1
 10.0.0.1 dev eth0 lladdr 00:11:22:33:44:55 REACHABLE
 proxies 0
 end
-",
-    },
-    Replay {
-        shows: "request_sends_what_waits_and_confirms_nothing",
-        words: &["--script", "s", "--capture", "c"],
-        script: "\
+== request_sends_what_waits_and_confirms_nothing: --script s --capture c
 host dev eth0 lladdr 02:00:00:00:00:02 inet 10.0.0.2
 @0 send 1 10.0.0.1 01
 @600 send 1 10.0.0.1 02
-",
-        records: "\
+-- records
 0 0200000000020011223344550800
 500 ffffffffffff001122334455080600010800060400010011223344550a0000010000000000000a000002
-",
-        report: "\
+-- report
 neigh 1 mode inline buckets 1 senders 1 window 50
 host dev eth0 lladdr 02:00:00:00:00:02 inet 10.0.0.2
 bucket 0 lines 3
@@ -183,26 +149,19 @@ table 1
 10.0.0.1 dev eth0 lladdr 00:11:22:33:44:55 DELAY
 proxies 0
 end
-",
-    },
-    Replay {
-        shows: "broadcast_reply_is_not_solicited",
-        words: &["--script", "s", "--capture", "c"],
-        script: "\
+== broadcast_reply_is_not_solicited: --script s --capture c
 host dev eth0 lladdr 02:00:00:00:00:02 inet 10.0.0.2
 param locktime 10
 @0 neigh add 10.0.0.1 lladdr 00:11:22:33:44:55 nud reachable
 @11 neigh show
 @12 neigh show
-",
-        records: "\
+-- records
 0 0200000000020011223344550800
 5 ffffffffffff001122334455080600010800060400020011223344550a0000010200000000020a000002
 10 ffffffffffff001122334466080600010800060400020011223344660a0000010200000000020a000002
 11 ffffffffffff001122334466080600010800060400020011223344660a0000010200000000020a000002
 12 020000000002001122334466080600010800060400020011223344660a0000010200000000020a000002
-",
-        report: "\
+-- report
 neigh 1 mode inline buckets 1 senders 1 window 50
 host dev eth0 lladdr 02:00:00:00:00:02 inet 10.0.0.2
 bucket 0 lines 7
@@ -231,22 +190,15 @@ table 1
 10.0.0.1 dev eth0 lladdr 00:11:22:33:44:66 REACHABLE
 proxies 0
 end
-",
-    },
-    Replay {
-        shows: "script_lines_go_before_records",
-        words: &["--script", "s", "--capture", "c"],
-        script: "\
+== script_lines_go_before_records: --script s --capture c
 host dev eth0 lladdr 02:00:00:00:00:02 inet 10.0.0.2
 @0 send 1 10.0.0.7 01
 @0 neigh add 10.0.0.1 lladdr 00:11:22:33:44:55
 @0 neigh show
-",
-        records: "\
+-- records
 0 ffffffffffff001122334466080600010800060400010011223344660a0000070000000000000a000002
 0 020000000002001122334466080600010800060400020011223344660a0000010200000000020a000002
-",
-        report: "\
+-- report
 neigh 1 mode inline buckets 1 senders 1 window 50
 host dev eth0 lladdr 02:00:00:00:00:02 inet 10.0.0.2
 bucket 0 lines 5
@@ -271,22 +223,15 @@ table 2
 10.0.0.7 dev eth0 lladdr 00:11:22:33:44:66 DELAY
 proxies 0
 end
-",
-    },
-    Replay {
-        shows: "full_table_answers_and_learns_nothing",
-        words: &["--script", "s", "--capture", "c"],
-        script: "\
+== full_table_answers_and_learns_nothing: --script s --capture c
 host dev eth0 lladdr 02:00:00:00:00:02 inet 10.0.0.2
 param gc_thresh3 1
 @0 neigh add 10.0.0.1 lladdr 00:11:22:33:44:55 nud permanent
-",
-        records: "\
+-- records
 0 ffffffffffff001122334466080600010800060400010011223344660a0000070000000000000a000002
 0 ffffffffffff001122334466080600010800060400010011223344660a0000010000000000000a000002
 1 ffffffffffff001122334466080600010800060400010011223344660a0000070000000000000a000001
-",
-        report: "\
+-- report
 neigh 1 mode inline buckets 1 senders 1 window 50
 host dev eth0 lladdr 02:00:00:00:00:02 inet 10.0.0.2
 bucket 0 lines 4
@@ -306,15 +251,9 @@ table 1
 10.0.0.1 dev eth0 lladdr 00:11:22:33:44:55 PERMANENT
 proxies 0
 end
-",
-    },
-    Replay {
-        shows: "frames_without_effect_have_numbers",
-        words: &["--script", "s", "--capture", "c"],
-        script: "\
+== frames_without_effect_have_numbers: --script s --capture c
 host dev eth0 lladdr 02:00:00:00:00:02 inet 10.0.0.2
-",
-        records: "\
+-- records
 0 020000
 1 ffffffffffff020000000002080600010800060400010200000000020a0000090000000000000a000002
 2 0200000000990011223344550800
@@ -322,8 +261,7 @@ host dev eth0 lladdr 02:00:00:00:00:02 inet 10.0.0.2
 4 ffffffffffff001122334455080600010800060400010011223344550a0000070000000000000a0000
 5 ffffffffffff001122334455080600010800060400030011223344550a0000070000000000000a000002
 6 ffffffffffff001122334455080600010800060400010011223344550a0000070000000000000a000002
-",
-        report: "\
+-- report
 neigh 1 mode inline buckets 1 senders 1 window 50
 host dev eth0 lladdr 02:00:00:00:00:02 inet 10.0.0.2
 bucket 0 lines 1
@@ -343,6 +281,4 @@ table 1
 10.0.0.7 dev eth0 lladdr 00:11:22:33:44:55 STALE
 proxies 0
 end
-",
-    },
-];
+";

@@ -1,21 +1,15 @@
-//! Scripts with IPv6 addresses.
-use crate::replays::Replay;
+//! Scripts with IPv6 addresses. The table is cut as `cases.rt` says.
 
-pub fn replays() -> &'static [Replay] {
-    &REPLAYS
+pub fn table() -> &'static str {
+    TABLE
 }
 
-const REPLAYS: [Replay; 6] = [
-    Replay {
-        shows: "first_packet_asks_the_solicited_node",
-        words: &["--script", "s"],
-        script: "\
+const TABLE: &str = "\
+== first_packet_asks_the_solicited_node: --script s
 host dev eth0 lladdr 02:00:00:00:00:02 inet 10.0.0.2 inet6 fe80::2
 @0 send 1 fe80::1 01
 @3000 neigh show
-",
-        records: "",
-        report: "\
+-- report
 neigh 1 mode inline buckets 1 senders 1 window 50
 host dev eth0 lladdr 02:00:00:00:00:02 inet 10.0.0.2 inet6 fe80::2
 bucket 0 lines 5
@@ -40,19 +34,12 @@ table 1
 fe80::1 dev eth0 FAILED
 proxies 0
 end
-",
-    },
-    Replay {
-        shows: "solicited_node_has_the_last_24_bits",
-        words: &["--script", "s"],
-        script: "\
+== solicited_node_has_the_last_24_bits: --script s
 host dev eth0 lladdr 02:00:00:00:00:02 inet 10.0.0.2 inet6 fe80::2
 @0 send 1 2001:db8::12:3456 01
 @0 send 1 2001:db8::ffff:ffff 02
 @500 neigh show
-",
-        records: "",
-        report: "\
+-- report
 neigh 1 mode inline buckets 1 senders 1 window 50
 host dev eth0 lladdr 02:00:00:00:00:02 inet 10.0.0.2 inet6 fe80::2
 bucket 0 lines 3
@@ -77,19 +64,12 @@ table 2
 2001:db8::ffff:ffff dev eth0 INCOMPLETE
 proxies 0
 end
-",
-    },
-    Replay {
-        shows: "stale_entry_is_asked_at_its_address",
-        words: &["--script", "s"],
-        script: "\
+== stale_entry_is_asked_at_its_address: --script s
 host dev eth0 lladdr 02:00:00:00:00:02 inet6 fe80::2
 @0 neigh add fe80::1 lladdr 00:11:22:33:44:55 nud stale
 @0 send 1 fe80::1 6000
 @8000 neigh show
-",
-        records: "",
-        report: "\
+-- report
 neigh 1 mode inline buckets 1 senders 1 window 50
 host dev eth0 lladdr 02:00:00:00:00:02 inet6 fe80::2
 bucket 0 lines 7
@@ -116,12 +96,7 @@ table 1
 fe80::1 dev eth0 FAILED
 proxies 0
 end
-",
-    },
-    Replay {
-        shows: "addresses_have_one_written_form",
-        words: &["--script", "s"],
-        script: "\
+== addresses_have_one_written_form: --script s
 host dev eth0 lladdr 02:00:00:00:00:02 inet 10.0.0.2 inet6 fe80::2
 @0 neigh add FE80:0:0:0:0:0:0:1 lladdr 00:11:22:33:44:55 nud permanent
 @0 neigh add 2001:db8:0:0:1:0:0:1 lladdr 00:11:22:33:44:66 nud noarp
@@ -130,9 +105,7 @@ host dev eth0 lladdr 02:00:00:00:00:02 inet 10.0.0.2 inet6 fe80::2
 @0 neigh add 0:0:0:0:0:0:0:1 lladdr 00:11:22:33:44:55 nud permanent
 @0 neigh add fe80::0001 lladdr 00:11:22:33:44:66 nud stale
 @1 neigh show
-",
-        records: "",
-        report: "\
+-- report
 neigh 1 mode inline buckets 1 senders 1 window 50
 host dev eth0 lladdr 02:00:00:00:00:02 inet 10.0.0.2 inet6 fe80::2
 bucket 0 lines 7
@@ -167,12 +140,7 @@ fe80::1 dev eth0 lladdr 00:11:22:33:44:55 PERMANENT
 ::1 dev eth0 lladdr 00:11:22:33:44:55 PERMANENT
 proxies 0
 end
-",
-    },
-    Replay {
-        shows: "both_families_in_one_table",
-        words: &["--script", "s"],
-        script: "\
+== both_families_in_one_table: --script s
 host dev eth0 lladdr 02:00:00:00:00:02 inet 10.0.0.2 inet6 fe80::2
 senders 2
 @0 send 2 fe80::1 0a
@@ -181,9 +149,7 @@ senders 2
 @6 neigh replace 10.0.0.1 lladdr 00:11:22:33:44:66 nud reachable
 @7 neigh flush
 @7 neigh show
-",
-        records: "",
-        report: "\
+-- report
 neigh 1 mode inline buckets 1 senders 2 window 50
 host dev eth0 lladdr 02:00:00:00:00:02 inet 10.0.0.2 inet6 fe80::2
 bucket 0 lines 6
@@ -213,12 +179,7 @@ fates sent 2 fast 0 dropped 0 waiting 0
 table 0
 proxies 0
 end
-",
-    },
-    Replay {
-        shows: "operations_by_hand_on_ipv6_keys",
-        words: &["--script", "s"],
-        script: "\
+== operations_by_hand_on_ipv6_keys: --script s
 host dev eth0 lladdr 02:00:00:00:00:02 inet 10.0.0.2 inet6 fe80::2
 @0 neigh change fe80::1 lladdr 00:11:22:33:44:55
 @0 neigh add fe80::1
@@ -232,9 +193,7 @@ host dev eth0 lladdr 02:00:00:00:00:02 inet 10.0.0.2 inet6 fe80::2
 @3 neigh del fe80::1
 @3 confirm fe80::1
 @4 neigh show
-",
-        records: "",
-        report: "\
+-- report
 neigh 1 mode inline buckets 1 senders 1 window 50
 host dev eth0 lladdr 02:00:00:00:00:02 inet 10.0.0.2 inet6 fe80::2
 bucket 0 lines 12
@@ -270,6 +229,4 @@ fates sent 1 fast 0 dropped 0 waiting 0
 table 0
 proxies 0
 end
-",
-    },
-];
+";

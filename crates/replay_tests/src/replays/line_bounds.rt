@@ -4,8 +4,8 @@ ghost use Rattle.pcap_records.specs.Capture.{AreBounded};
 ghost use Rattle.neigh_script.specs.Limits as limits;
 ghost use Rattle.neigh_plan.specs.Inline.{IsEnterable};
 
+use crate::captures::{FILE_HEADER, bytes_of, put_record};
 use crate::command::{BESIDE, Ending, ends, script_and_capture};
-use crate::replays::{FILE_HEADER, bytes_of, put_record};
 use nb_base::Plan;
 use neigh_plan::{line_bound, plan};
 use neigh_script::Script;

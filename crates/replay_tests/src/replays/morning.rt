@@ -1,6 +1,6 @@
 //! A realistic morning: forty hosts ask and answer for five minutes while two senders send three thousand packets to them.
+use crate::captures::{FILE_HEADER, put_head};
 use crate::command::{BESIDE, HOST, report_of, script_and_capture};
-use crate::replays::FILE_HEADER;
 use link_codec::{Arp, write_arp, write_eth};
 use nb_base::Mac;
 use std::alloc::{AllocError, Global};
@@ -23,22 +23,13 @@ fn mac_of(family: u8, host: u8) -> Mac {
     Mac([2, 0, 0, 0, family, host])
 }
 
-/// The head of a record of an ARP packet, whose frame has 42 bytes.
-fn put_head(file: &mut Vec<u8>, millis: u32) -> Result<(), AllocError> {
-    let len = 42u32.to_be_bytes();
-    file.extend_from_slice(&(millis / 1_000).to_be_bytes())?;
-    file.extend_from_slice(&(millis % 1_000 * 1_000).to_be_bytes())?;
-    file.extend_from_slice(&len)?;
-    file.extend_from_slice(&len)
-}
-
-/// A record of an ARP packet.
+/// A record of an ARP packet, whose frame has 42 bytes.
 fn put_arp(file: &mut Vec<u8>, millis: u32, dst: &Mac, arp: &Arp) -> Result<(), AllocError> {
     let mut header = [0; 14];
     let mut body = [0; 28];
     write_eth(&mut header, dst, &arp.sha, 0x0806);
     write_arp(&mut body, arp);
-    put_head(file, millis)?;
+    put_head(file, millis, &42u32.to_be_bytes())?;
     file.extend_from_slice(&header)?;
     file.extend_from_slice(&body)
 }
@@ -183,7 +174,7 @@ fn first_wrong_in(
 fn first_wrong_part(
     rt: &HostRuntime,
     alloc: Global,
-    words: &[&str],
+    words: &str,
     counts: &[(&'static str, usize)],
 ) -> Result<Option<&'static str>, Fail> {
     let script = packets(alloc)?;
@@ -194,7 +185,7 @@ fn first_wrong_part(
     }
 }
 
-const BESIDE_64: &[&str] = &["--script", "s", "--capture", "c", "--buckets=64"];
+const BESIDE_64: &str = "--script s --capture c --buckets=64";
 
 #[test]
 fn realistic_morning(rt: HostRuntime) -> Result<(), Fail> {

@@ -1,15 +1,11 @@
-//! Scripts and captures with proxies.
-use crate::replays::Replay;
+//! Scripts and captures with proxies. The table is cut as `cases.rt` says.
 
-pub fn replays() -> &'static [Replay] {
-    &REPLAYS
+pub fn table() -> &'static str {
+    TABLE
 }
 
-const REPLAYS: [Replay; 9] = [
-    Replay {
-        shows: "proxy_lines_and_their_order",
-        words: &["--script", "s"],
-        script: "\
+const TABLE: &str = "\
+== proxy_lines_and_their_order: --script s
 host dev eth0 lladdr 02:00:00:00:00:02 inet 10.0.0.2 inet6 fe80::2
 @0 neigh add proxy fe80::9
 @0 neigh add proxy 10.0.0.9
@@ -19,9 +15,7 @@ host dev eth0 lladdr 02:00:00:00:00:02 inet 10.0.0.2 inet6 fe80::2
 @1 neigh del proxy 10.0.0.9
 @2 neigh add proxy 10.0.0.9
 @2 neigh show
-",
-        records: "",
-        report: "\
+-- report
 neigh 1 mode inline buckets 1 senders 1 window 50
 host dev eth0 lladdr 02:00:00:00:00:02 inet 10.0.0.2 inet6 fe80::2
 bucket 0 lines 1
@@ -44,22 +38,15 @@ fe80::9 dev eth0 proxy
 10.0.0.8 dev eth0 proxy
 10.0.0.9 dev eth0 proxy
 end
-",
-    },
-    Replay {
-        shows: "proxied_request_is_answered_at_its_due",
-        words: &["--script", "s", "--capture", "c"],
-        script: "\
+== proxied_request_is_answered_at_its_due: --script s --capture c
 host dev eth0 lladdr 02:00:00:00:00:02 inet 10.0.0.2
 @0 neigh add proxy 10.0.0.9
 @799 neigh show
 @800 neigh show
 @801 neigh add 10.0.0.9 lladdr 00:11:22:33:44:66 nud permanent
-",
-        records: "\
+-- records
 0 ffffffffffff001122334455080600010800060400010011223344550a0000070000000000000a000009
-",
-        report: "\
+-- report
 neigh 1 mode inline buckets 1 senders 1 window 50
 host dev eth0 lladdr 02:00:00:00:00:02 inet 10.0.0.2
 bucket 0 lines 4
@@ -82,23 +69,16 @@ table 1
 proxies 1
 10.0.0.9 dev eth0 proxy
 end
-",
-    },
-    Replay {
-        shows: "proxied_request_updates_its_sender",
-        words: &["--script", "s", "--capture", "c"],
-        script: "\
+== proxied_request_updates_its_sender: --script s --capture c
 host dev eth0 lladdr 02:00:00:00:00:02 inet 10.0.0.2
 @0 neigh add 10.0.0.7 lladdr 00:11:22:33:44:66 nud stale
 @0 neigh add proxy 10.0.0.9
 @3000 neigh show
-",
-        records: "\
+-- records
 0 0200000000020011223344550800
 1001 ffffffffffff001122334455080600010800060400010011223344550a0000070000000000000a000009
 1002 ffffffffffff001122334455080600010800060400010011223344550a0000020000000000000a000009
-",
-        report: "\
+-- report
 neigh 1 mode inline buckets 1 senders 1 window 50
 host dev eth0 lladdr 02:00:00:00:00:02 inet 10.0.0.2
 bucket 0 lines 3
@@ -123,24 +103,17 @@ table 1
 proxies 1
 10.0.0.9 dev eth0 proxy
 end
-",
-    },
-    Replay {
-        shows: "deleted_proxy_answers_once_more",
-        words: &["--script", "s", "--capture", "c"],
-        script: "\
+== deleted_proxy_answers_once_more: --script s --capture c
 host dev eth0 lladdr 02:00:00:00:00:02 inet 10.0.0.2
 param proxy_delay 100
 @0 neigh add proxy 10.0.0.9
 @50 neigh del proxy 10.0.0.9
 @200 neigh show
-",
-        records: "\
+-- records
 0 ffffffffffff001122334455080600010800060400010011223344550a0000070000000000000a000009
 49 ffffffffffff001122334466080600010800060400010011223344660a0000070000000000000a000009
 50 ffffffffffff001122334477080600010800060400010011223344770a0000070000000000000a000009
-",
-        report: "\
+-- report
 neigh 1 mode inline buckets 1 senders 1 window 50
 host dev eth0 lladdr 02:00:00:00:00:02 inet 10.0.0.2
 bucket 0 lines 4
@@ -163,24 +136,17 @@ fates sent 0 fast 0 dropped 0 waiting 0
 table 0
 proxies 0
 end
-",
-    },
-    Replay {
-        shows: "proxied_solicitations",
-        words: &["--script", "s", "--capture", "c"],
-        script: "\
+== proxied_solicitations: --script s --capture c
 host dev eth0 lladdr 02:00:00:00:00:02 inet 10.0.0.2 inet6 fe80::2
 param proxy_delay 10
 @0 neigh add proxy fe80::9
 @100 neigh show
-",
-        records: "\
+-- records
 0 3333ff00000900112233445586dd6000000000203afffe800000000000000000000000000001ff0200000000000000000001ff000009870015e000000000fe8000000000000000000000000000090101001122334466
 1 3333ff00000900112233445586dd6000000000183afffe800000000000000000000000000001ff0200000000000000000001ff00000987007d9300000000fe800000000000000000000000000009
 2 3333ff00000900112233447786dd6000000000183aff00000000000000000000000000000000ff0200000000000000000001ff00000987007c1500000000fe800000000000000000000000000009
 3 3333ff00000800112233446686dd6000000000203afffe800000000000000000000000000001ff0200000000000000000001ff000008870015e200000000fe8000000000000000000000000000080101001122334466
-",
-        report: "\
+-- report
 neigh 1 mode inline buckets 1 senders 1 window 50
 host dev eth0 lladdr 02:00:00:00:00:02 inet 10.0.0.2 inet6 fe80::2
 bucket 0 lines 1
@@ -202,27 +168,20 @@ table 0
 proxies 1
 fe80::9 dev eth0 proxy
 end
-",
-    },
-    Replay {
-        shows: "queue_of_one",
-        words: &["--script", "s", "--capture", "c"],
-        script: "\
+== queue_of_one: --script s --capture c
 host dev eth0 lladdr 02:00:00:00:00:02 inet 10.0.0.2 inet6 fe80::2
 param proxy_delay 100
 param proxy_qlen 1
 @0 neigh add proxy 10.0.0.9
 @0 neigh add proxy fe80::9
 @300 neigh show
-",
-        records: "\
+-- records
 0 ffffffffffff001122334455080600010800060400010011223344550a0000070000000000000a000009
 1 3333ff00000900112233445586dd6000000000203afffe800000000000000000000000000001ff0200000000000000000001ff000009870015f100000000fe8000000000000000000000000000090101001122334455
 99 ffffffffffff001122334466080600010800060400010011223344660a0000070000000000000a000009
 100 3333ff00000900112233445586dd6000000000203afffe800000000000000000000000000001ff0200000000000000000001ff000009870015f100000000fe8000000000000000000000000000090101001122334455
 150 ffffffffffff001122334477080600010800060400010011223344770a0000070000000000000a000009
-",
-        report: "\
+-- report
 neigh 1 mode inline buckets 1 senders 1 window 50
 host dev eth0 lladdr 02:00:00:00:00:02 inet 10.0.0.2 inet6 fe80::2
 bucket 0 lines 4
@@ -249,26 +208,19 @@ proxies 2
 10.0.0.9 dev eth0 proxy
 fe80::9 dev eth0 proxy
 end
-",
-    },
-    Replay {
-        shows: "answers_in_order_of_requests",
-        words: &["--script", "s", "--capture", "c"],
-        script: "\
+== answers_in_order_of_requests: --script s --capture c
 host dev eth0 lladdr 02:00:00:00:00:02 inet 10.0.0.2 inet6 fe80::2
 param proxy_delay 30
 @0 neigh add proxy 10.0.0.9
 @0 neigh add proxy fe80::9
 @1000 neigh show
-",
-        records: "\
+-- records
 0 3333ff00000900112233445586dd6000000000203afffe800000000000000000000000000001ff0200000000000000000001ff000009870015f100000000fe8000000000000000000000000000090101001122334455
 0 ffffffffffff001122334455080600010800060400010011223344550a0000070000000000000a000009
 10 ffffffffffff001122334466080600010800060400010011223344660a0000080000000000000a000009
 20 3333ff00000900112233446686dd6000000000203afffe800000000000000000000000000003ff0200000000000000000001ff000009870015de00000000fe8000000000000000000000000000090101001122334466
 35 0200000000020011223344550800
-",
-        report: "\
+-- report
 neigh 1 mode inline buckets 1 senders 1 window 50
 host dev eth0 lladdr 02:00:00:00:00:02 inet 10.0.0.2 inet6 fe80::2
 bucket 0 lines 3
@@ -296,21 +248,14 @@ proxies 2
 10.0.0.9 dev eth0 proxy
 fe80::9 dev eth0 proxy
 end
-",
-    },
-    Replay {
-        shows: "last_requests_stay_unanswered",
-        words: &["--script", "s", "--capture", "c"],
-        script: "\
+== last_requests_stay_unanswered: --script s --capture c
 host dev eth0 lladdr 02:00:00:00:00:02 inet 10.0.0.2
 @0 neigh add proxy 10.0.0.9
 @5000 send 1 10.0.0.7 01
-",
-        records: "\
+-- records
 0 ffffffffffff001122334455080600010800060400010011223344550a0000070000000000000a000009
 799 0200000000020011223344550800
-",
-        report: "\
+-- report
 neigh 1 mode inline buckets 1 senders 1 window 50
 host dev eth0 lladdr 02:00:00:00:00:02 inet 10.0.0.2
 bucket 0 lines 2
@@ -331,24 +276,17 @@ table 1
 proxies 1
 10.0.0.9 dev eth0 proxy
 end
-",
-    },
-    Replay {
-        shows: "proxy_counts_from_its_line_on",
-        words: &["--script", "s", "--capture", "c"],
-        script: "\
+== proxy_counts_from_its_line_on: --script s --capture c
 host dev eth0 lladdr 02:00:00:00:00:02 inet 10.0.0.2
 @5 neigh add proxy 10.0.0.9
 @1000 neigh show
-",
-        records: "\
+-- records
 0 0200000000020011223344550800
 4 ffffffffffff001122334455080600010800060400010011223344550a0000070000000000000a000009
 5 ffffffffffff001122334455080600010800060400010011223344550a0000070000000000000a000009
 6 020000000002001122334455080600010800060400020011223344550a0000070200000000020a000009
 7 ffffffffffff001122334466080600010800060400010011223344660a0000090000000000000a000009
-",
-        report: "\
+-- report
 neigh 1 mode inline buckets 1 senders 1 window 50
 host dev eth0 lladdr 02:00:00:00:00:02 inet 10.0.0.2
 bucket 0 lines 5
@@ -374,6 +312,4 @@ table 0
 proxies 1
 10.0.0.9 dev eth0 proxy
 end
-",
-    },
-];
+";

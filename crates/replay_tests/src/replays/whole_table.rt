@@ -1,22 +1,16 @@
-//! Scripts whose lines see the whole table of two buckets.
-use crate::replays::Replay;
+//! Scripts whose lines see the whole table of two buckets. The table is cut as `cases.rt` says.
 
-pub fn replays() -> &'static [Replay] {
-    &REPLAYS
+pub fn table() -> &'static str {
+    TABLE
 }
 
-const REPLAYS: [Replay; 8] = [
-    Replay {
-        shows: "show_over_two_buckets",
-        words: &["--script", "s", "--buckets", "2"],
-        script: "\
+const TABLE: &str = "\
+== show_over_two_buckets: --script s --buckets 2
 host dev eth0 lladdr 02:00:00:00:00:02 inet 10.0.0.2
 @0 neigh add 10.0.0.1 lladdr 00:11:22:33:44:55
 @0 neigh add 10.0.0.4 lladdr 00:11:22:33:44:66
 @5 neigh show
-",
-        records: "",
-        report: "\
+-- report
 neigh 1 mode inline buckets 2 senders 1 window 50
 host dev eth0 lladdr 02:00:00:00:00:02 inet 10.0.0.2
 bucket 0 lines 2
@@ -41,12 +35,7 @@ table 2
 10.0.0.1 dev eth0 lladdr 00:11:22:33:44:55 PERMANENT
 proxies 0
 end
-",
-    },
-    Replay {
-        shows: "full_by_both_buckets",
-        words: &["--script", "s", "--buckets", "2"],
-        script: "\
+== full_by_both_buckets: --script s --buckets 2
 host dev eth0 lladdr 02:00:00:00:00:02 inet 10.0.0.2
 param gc_thresh1 1
 param gc_thresh2 2
@@ -55,9 +44,7 @@ param gc_thresh3 3
 @0 send 1 10.0.0.12 01
 @0 send 1 10.0.0.13 01
 @0 send 1 10.0.0.14 01
-",
-        records: "",
-        report: "\
+-- report
 neigh 1 mode inline buckets 2 senders 1 window 50
 host dev eth0 lladdr 02:00:00:00:00:02 inet 10.0.0.2
 bucket 0 lines 2
@@ -91,12 +78,7 @@ table 3
 10.0.0.13 dev eth0 INCOMPLETE
 proxies 0
 end
-",
-    },
-    Replay {
-        shows: "pass_takes_its_own_entries",
-        words: &["--script", "s", "--buckets", "2"],
-        script: "\
+== pass_takes_its_own_entries: --script s --buckets 2
 host dev eth0 lladdr 02:00:00:00:00:02 inet 10.0.0.2
 param gc_thresh2 4
 param gc_thresh3 9
@@ -107,9 +89,7 @@ param gc_thresh3 9
 @0 neigh add 10.0.0.16 lladdr 00:11:22:33:44:55 nud stale
 @5001 neigh add 10.0.0.18 lladdr 00:11:22:33:44:55 nud stale
 @5001 neigh show
-",
-        records: "",
-        report: "\
+-- report
 neigh 1 mode inline buckets 2 senders 1 window 50
 host dev eth0 lladdr 02:00:00:00:00:02 inet 10.0.0.2
 bucket 0 lines 7
@@ -152,12 +132,7 @@ table 4
 10.0.0.13 dev eth0 lladdr 00:11:22:33:44:55 STALE
 proxies 0
 end
-",
-    },
-    Replay {
-        shows: "pass_of_each_bucket",
-        words: &["--script", "s", "--buckets", "2"],
-        script: "\
+== pass_of_each_bucket: --script s --buckets 2
 host dev eth0 lladdr 02:00:00:00:00:02 inet 10.0.0.2
 param gc_thresh2 1
 param gc_thresh3 9
@@ -169,9 +144,7 @@ param gc_thresh3 9
 @10001 neigh add 10.0.0.17 lladdr 00:11:22:33:44:55 nud stale
 @10002 neigh add 10.0.0.19 lladdr 00:11:22:33:44:55 nud stale
 @10002 neigh show
-",
-        records: "",
-        report: "\
+-- report
 neigh 1 mode inline buckets 2 senders 1 window 50
 host dev eth0 lladdr 02:00:00:00:00:02 inet 10.0.0.2
 bucket 0 lines 4
@@ -218,12 +191,7 @@ table 4
 10.0.0.19 dev eth0 lladdr 00:11:22:33:44:55 STALE
 proxies 0
 end
-",
-    },
-    Replay {
-        shows: "full_where_the_own_bucket_is_empty",
-        words: &["--script", "s", "--buckets", "2"],
-        script: "\
+== full_where_the_own_bucket_is_empty: --script s --buckets 2
 host dev eth0 lladdr 02:00:00:00:00:02 inet 10.0.0.2
 param gc_thresh1 1
 param gc_thresh2 3
@@ -235,9 +203,7 @@ param gc_thresh3 3
 @6000 neigh del 10.0.0.11
 @6001 neigh add 10.0.0.12 lladdr 00:11:22:33:44:55 nud stale
 @6001 neigh show
-",
-        records: "",
-        report: "\
+-- report
 neigh 1 mode inline buckets 2 senders 1 window 50
 host dev eth0 lladdr 02:00:00:00:00:02 inet 10.0.0.2
 bucket 0 lines 3
@@ -275,12 +241,7 @@ table 3
 10.0.0.15 dev eth0 lladdr 00:11:22:33:44:55 STALE
 proxies 0
 end
-",
-    },
-    Replay {
-        shows: "sweep_sees_the_whole_table",
-        words: &["--script", "s", "--buckets", "2"],
-        script: "\
+== sweep_sees_the_whole_table: --script s --buckets 2
 host dev eth0 lladdr 02:00:00:00:00:02 inet 10.0.0.2
 param gc_thresh1 3
 param gc_interval 10000
@@ -291,9 +252,7 @@ param gc_stale_time 10
 @10000 neigh del 10.0.0.99
 @10000 neigh del 10.0.0.98
 @10001 neigh show
-",
-        records: "",
-        report: "\
+-- report
 neigh 1 mode inline buckets 2 senders 1 window 50
 host dev eth0 lladdr 02:00:00:00:00:02 inet 10.0.0.2
 bucket 0 lines 5
@@ -329,12 +288,7 @@ table 2
 10.0.0.14 dev eth0 lladdr 00:11:22:33:44:55 STALE
 proxies 0
 end
-",
-    },
-    Replay {
-        shows: "second_sweep_sees_what_the_first_left",
-        words: &["--script", "s", "--buckets", "2"],
-        script: "\
+== second_sweep_sees_what_the_first_left: --script s --buckets 2
 host dev eth0 lladdr 02:00:00:00:00:02 inet 10.0.0.2
 param gc_thresh1 2
 param gc_interval 10000
@@ -342,9 +296,7 @@ param gc_stale_time 10
 @0 neigh add 10.0.0.12 lladdr 00:11:22:33:44:55 nud stale
 @0 neigh add 10.0.0.11 lladdr 00:11:22:33:44:55 nud stale
 @10000 neigh show
-",
-        records: "",
-        report: "\
+-- report
 neigh 1 mode inline buckets 2 senders 1 window 50
 host dev eth0 lladdr 02:00:00:00:00:02 inet 10.0.0.2
 bucket 0 lines 3
@@ -371,12 +323,7 @@ table 1
 10.0.0.11 dev eth0 lladdr 00:11:22:33:44:55 STALE
 proxies 0
 end
-",
-    },
-    Replay {
-        shows: "late_sweeps_see_later_entries",
-        words: &["--script", "s", "--buckets", "2"],
-        script: "\
+== late_sweeps_see_later_entries: --script s --buckets 2
 host dev eth0 lladdr 02:00:00:00:00:02 inet 10.0.0.2
 param gc_thresh1 3
 param gc_interval 10000
@@ -386,9 +333,7 @@ param gc_stale_time 10
 @25001 neigh add 10.0.0.13 lladdr 00:11:22:33:44:55 nud stale
 @25002 confirm 10.0.0.12
 @30000 neigh show
-",
-        records: "",
-        report: "\
+-- report
 neigh 1 mode inline buckets 2 senders 1 window 50
 host dev eth0 lladdr 02:00:00:00:00:02 inet 10.0.0.2
 bucket 0 lines 6
@@ -430,6 +375,4 @@ table 2
 10.0.0.13 dev eth0 lladdr 00:11:22:33:44:55 STALE
 proxies 0
 end
-",
-    },
-];
+";

@@ -1,21 +1,16 @@
-//! Scripts of adding by hand, and of operations that are refused.
-use crate::scripts::Worked;
+//! Scripts of adding by hand, and of operations that are refused. The table is cut as `scripts.rt` says.
 
-pub fn scripts() -> &'static [Worked] {
-    &SCRIPTS
+pub fn table() -> &'static str {
+    TABLE
 }
 
-const SCRIPTS: [Worked; 8] = [
-    Worked {
-        shows: "add_twice_del_missing_add_without_address",
-        senders: 1,
-        script: "\
+const TABLE: &str = "\
+== add_twice_del_missing_add_without_address: senders 1
 @0 neigh add 10.0.0.1 lladdr 00:11:22:33:44:55
 @0 neigh add 10.0.0.1 lladdr 00:11:22:33:44:55
 @0 neigh del 10.0.0.9
 @0 neigh add 10.0.0.8
-",
-        report: "\
+-- report
 bucket 0 lines 4
 0 0 32 add 10.0.0.1 00:11:22:33:44:55 permanent -> done
 1 0 64 add 10.0.0.1 00:11:22:33:44:55 permanent -> exists
@@ -33,20 +28,14 @@ table 1
 10.0.0.1 dev eth0 lladdr 00:11:22:33:44:55 PERMANENT
 proxies 0
 end
-",
-    },
-    Worked {
-        shows: "add_in_each_state_and_any_order_of_options",
-        senders: 1,
-        script: "\
+== add_in_each_state_and_any_order_of_options: senders 1
 @0 neigh add 10.0.0.1 lladdr 00:11:22:33:44:55
 @0 neigh add 10.0.0.3 nud noarp lladdr 00:11:22:33:44:66
 @0 neigh add 10.0.0.4 dev eth0 nud reachable lladdr 00:11:22:33:44:77
 @0 neigh add 10.0.0.5 lladdr 00:11:22:33:44:55 nud stale dev eth0
 @0 neigh add 10.0.0.6 nud stale
 @0 neigh show
-",
-        report: "\
+-- report
 bucket 0 lines 6
 0 0 32 add 10.0.0.1 00:11:22:33:44:55 permanent -> done
 1 0 64 add 10.0.0.3 00:11:22:33:44:66 noarp -> done
@@ -75,20 +64,14 @@ table 4
 10.0.0.5 dev eth0 lladdr 00:11:22:33:44:55 STALE
 proxies 0
 end
-",
-    },
-    Worked {
-        shows: "add_leaves_present_entries_alone",
-        senders: 1,
-        script: "\
+== add_leaves_present_entries_alone: senders 1
 @0 neigh add 10.0.0.3 lladdr 00:11:22:33:44:55 nud stale
 @0 send 1 10.0.0.1 01
 @1 neigh add 10.0.0.1 lladdr 00:11:22:33:44:66 nud reachable
 @1 neigh add 10.0.0.3
 @2 neigh show
 @3000 neigh add 10.0.0.1 lladdr 00:11:22:33:44:66
-",
-        report: "\
+-- report
 bucket 0 lines 9
 0 0 32 add 10.0.0.3 00:11:22:33:44:55 stale -> done
 1 0 33 send 10.0.0.1 -> waits
@@ -121,12 +104,7 @@ table 2
 10.0.0.1 dev eth0 FAILED
 proxies 0
 end
-",
-    },
-    Worked {
-        shows: "add_finds_each_other_state",
-        senders: 1,
-        script: "\
+== add_finds_each_other_state: senders 1
 @0 neigh add 10.0.0.1 lladdr 00:11:22:33:44:55 nud stale
 @0 neigh add 10.0.0.3 lladdr 00:11:22:33:44:66 nud noarp
 @0 neigh add 10.0.0.4 lladdr 00:11:22:33:44:77 nud reachable
@@ -136,8 +114,7 @@ end
 @1 neigh add 10.0.0.4 lladdr 00:11:22:33:44:55 nud stale
 @5500 neigh add 10.0.0.1 lladdr 00:11:22:33:44:77
 @5500 neigh show
-",
-        report: "\
+-- report
 bucket 0 lines 10
 0 0 32 add 10.0.0.1 00:11:22:33:44:55 stale -> done
 1 0 64 add 10.0.0.3 00:11:22:33:44:66 noarp -> done
@@ -173,20 +150,14 @@ table 3
 10.0.0.4 dev eth0 lladdr 00:11:22:33:44:77 REACHABLE
 proxies 0
 end
-",
-    },
-    Worked {
-        shows: "add_without_address_on_a_known_key",
-        senders: 1,
-        script: "\
+== add_without_address_on_a_known_key: senders 1
 @0 neigh add 10.0.0.1 lladdr 00:11:22:33:44:55 nud stale
 @0 neigh add 10.0.0.1
 @1 neigh del 10.0.0.1
 @1 neigh add 10.0.0.1
 @2 neigh change 10.0.0.1 lladdr 00:11:22:33:44:66
 @3 neigh add 10.0.0.1 lladdr 00:11:22:33:44:66
-",
-        report: "\
+-- report
 bucket 0 lines 6
 0 0 32 add 10.0.0.1 00:11:22:33:44:55 stale -> done
 1 0 64 add 10.0.0.1 - permanent -> exists
@@ -208,12 +179,7 @@ table 1
 10.0.0.1 dev eth0 lladdr 00:11:22:33:44:66 PERMANENT
 proxies 0
 end
-",
-    },
-    Worked {
-        shows: "change_and_replace_want_an_address",
-        senders: 1,
-        script: "\
+== change_and_replace_want_an_address: senders 1
 @0 neigh change 10.0.0.1 nud stale
 @0 neigh replace 10.0.0.1 nud stale
 @0 send 1 10.0.0.1 01
@@ -221,8 +187,7 @@ end
 @1 neigh replace 10.0.0.1
 @3000 neigh change 10.0.0.1
 @3000 neigh replace 10.0.0.1 nud reachable
-",
-        report: "\
+-- report
 bucket 0 lines 10
 0 0 32 change 10.0.0.1 - stale -> missing
 1 0 64 replace 10.0.0.1 - stale -> noaddress
@@ -254,12 +219,7 @@ table 1
 10.0.0.1 dev eth0 FAILED
 proxies 0
 end
-",
-    },
-    Worked {
-        shows: "refused_operations_give_no_rank",
-        senders: 1,
-        script: "\
+== refused_operations_give_no_rank: senders 1
 @0 neigh change 10.0.0.7 lladdr 00:11:22:33:44:55
 @0 neigh replace 10.0.0.7
 @0 neigh add 10.0.0.7
@@ -268,8 +228,7 @@ end
 @0 neigh add 10.0.0.5 lladdr 00:11:22:33:44:55
 @0 neigh add 10.0.0.7 lladdr 00:11:22:33:44:66
 @0 neigh show
-",
-        report: "\
+-- report
 bucket 0 lines 8
 0 0 32 change 10.0.0.7 00:11:22:33:44:55 permanent -> missing
 1 0 64 replace 10.0.0.7 - permanent -> noaddress
@@ -298,19 +257,13 @@ table 2
 10.0.0.7 dev eth0 lladdr 00:11:22:33:44:66 PERMANENT
 proxies 0
 end
-",
-    },
-    Worked {
-        shows: "spellings_have_one_written_form",
-        senders: 1,
-        script: "\
+== spellings_have_one_written_form: senders 1
 # numbers may begin with zeros, and words may stand far apart
 @007 neigh  add   10.0.0.1 lladdr 0:AA:b:0C:44:5
 
 @8 send 01 10.0.0.1 4500ABcd
   # done
-",
-        report: "\
+-- report
 bucket 0 lines 2
 0 7 32 add 10.0.0.1 00:aa:0b:0c:44:05 permanent -> done
 1 8 33 send 10.0.0.1 -> sent
@@ -325,6 +278,4 @@ table 1
 10.0.0.1 dev eth0 lladdr 00:aa:0b:0c:44:05 PERMANENT
 proxies 0
 end
-",
-    },
-];
+";

@@ -1,22 +1,17 @@
-//! Scripts of changing and replacing by hand.
-use crate::scripts::Worked;
+//! Scripts of changing and replacing by hand. The table is cut as `scripts.rt` says.
 
-pub fn scripts() -> &'static [Worked] {
-    &SCRIPTS
+pub fn table() -> &'static str {
+    TABLE
 }
 
-const SCRIPTS: [Worked; 8] = [
-    Worked {
-        shows: "change_of_an_incomplete_entry_sends_its_packets",
-        senders: 1,
-        script: "\
+const TABLE: &str = "\
+== change_of_an_incomplete_entry_sends_its_packets: senders 1
 @0 send 1 10.0.0.1 01
 @1 send 1 10.0.0.1 02
 @2 neigh change 10.0.0.1 lladdr 00:11:22:33:44:55 nud stale
 @3 send 1 10.0.0.1 03
 @5003 neigh show
-",
-        report: "\
+-- report
 bucket 0 lines 6
 0 0 33 send 10.0.0.1 -> waits
   solicit ffffffffffff020000000002080600010800060400010200000000020a0000020000000000000a000001
@@ -45,17 +40,11 @@ table 1
 10.0.0.1 dev eth0 lladdr 00:11:22:33:44:55 PROBE
 proxies 0
 end
-",
-    },
-    Worked {
-        shows: "replace_of_an_incomplete_entry_stops_its_probes",
-        senders: 1,
-        script: "\
+== replace_of_an_incomplete_entry_stops_its_probes: senders 1
 @0 send 1 10.0.0.1 01
 @500 neigh replace 10.0.0.1 lladdr 00:11:22:33:44:55
 @1500 neigh show
-",
-        report: "\
+-- report
 bucket 0 lines 3
 0 0 33 send 10.0.0.1 -> waits
   solicit ffffffffffff020000000002080600010800060400010200000000020a0000020000000000000a000001
@@ -75,12 +64,7 @@ table 1
 10.0.0.1 dev eth0 lladdr 00:11:22:33:44:55 PERMANENT
 proxies 0
 end
-",
-    },
-    Worked {
-        shows: "replace_and_change_of_a_failed_entry",
-        senders: 1,
-        script: "\
+== replace_and_change_of_a_failed_entry: senders 1
 param mcast_solicit 1
 @0 send 1 10.0.0.1 01
 @0 send 1 10.0.0.3 02
@@ -88,8 +72,7 @@ param mcast_solicit 1
 @1000 neigh change 10.0.0.3 lladdr 00:11:22:33:44:66 nud noarp
 @1001 send 1 10.0.0.1 03
 @1001 send 1 10.0.0.3 04
-",
-        report: "\
+-- report
 bucket 0 lines 8
 0 0 33 send 10.0.0.1 -> waits
   solicit ffffffffffff020000000002080600010800060400010200000000020a0000020000000000000a000001
@@ -122,18 +105,12 @@ table 2
 10.0.0.3 dev eth0 lladdr 00:11:22:33:44:66 NOARP
 proxies 0
 end
-",
-    },
-    Worked {
-        shows: "replace_makes_and_replaces",
-        senders: 1,
-        script: "\
+== replace_makes_and_replaces: senders 1
 @0 neigh replace 10.0.0.1 lladdr 00:11:22:33:44:55 nud stale
 @1 neigh replace 10.0.0.1 lladdr 00:11:22:33:44:66
 @2 neigh replace 10.0.0.1 nud noarp
 @3 send 1 10.0.0.1 01
-",
-        report: "\
+-- report
 bucket 0 lines 4
 0 0 32 replace 10.0.0.1 00:11:22:33:44:55 stale -> done
 1 1 64 replace 10.0.0.1 00:11:22:33:44:66 permanent -> done
@@ -152,12 +129,7 @@ table 1
 10.0.0.1 dev eth0 lladdr 00:11:22:33:44:66 NOARP
 proxies 0
 end
-",
-    },
-    Worked {
-        shows: "replace_in_delay_and_behind_a_removal",
-        senders: 1,
-        script: "\
+== replace_in_delay_and_behind_a_removal: senders 1
 @0 neigh add 10.0.0.1 lladdr 00:11:22:33:44:55 nud stale
 @0 send 1 10.0.0.1 01
 @10 neigh replace 10.0.0.1 lladdr 00:11:22:33:44:66 nud stale
@@ -166,8 +138,7 @@ end
 @20 neigh replace 10.0.0.1
 @30 neigh replace 10.0.0.1 lladdr 00:11:22:33:44:77 nud reachable
 @30030 neigh show
-",
-        report: "\
+-- report
 bucket 0 lines 10
 0 0 32 add 10.0.0.1 00:11:22:33:44:55 stale -> done
 1 0 33 send 10.0.0.1 -> sent
@@ -198,18 +169,12 @@ table 1
 10.0.0.1 dev eth0 lladdr 00:11:22:33:44:77 REACHABLE
 proxies 0
 end
-",
-    },
-    Worked {
-        shows: "change_without_an_address_keeps_the_old_one",
-        senders: 1,
-        script: "\
+== change_without_an_address_keeps_the_old_one: senders 1
 @0 neigh add 10.0.0.1 lladdr 00:11:22:33:44:55
 @1 neigh change 10.0.0.1 nud reachable
 @30011 neigh show
 @30012 neigh change 10.0.0.1
-",
-        report: "\
+-- report
 bucket 0 lines 7
 0 0 32 add 10.0.0.1 00:11:22:33:44:55 permanent -> done
 1 1 64 change 10.0.0.1 - reachable -> done
@@ -231,12 +196,7 @@ table 1
 10.0.0.1 dev eth0 lladdr 00:11:22:33:44:55 PERMANENT
 proxies 0
 end
-",
-    },
-    Worked {
-        shows: "noarp_and_permanent_change_by_hand",
-        senders: 1,
-        script: "\
+== noarp_and_permanent_change_by_hand: senders 1
 @0 neigh add 10.0.0.1 lladdr 00:11:22:33:44:55 nud noarp
 @0 neigh add 10.0.0.3 lladdr 00:11:22:33:44:66
 @1 neigh change 10.0.0.1 lladdr 00:11:22:33:44:77 nud reachable
@@ -244,8 +204,7 @@ end
 @2 send 1 10.0.0.1 01
 @2 send 1 10.0.0.3 02
 @30001 neigh show
-",
-        report: "\
+-- report
 bucket 0 lines 9
 0 0 32 add 10.0.0.1 00:11:22:33:44:55 noarp -> done
 1 0 64 add 10.0.0.3 00:11:22:33:44:66 permanent -> done
@@ -276,19 +235,13 @@ table 2
 10.0.0.3 dev eth0 lladdr 00:11:22:33:44:77 PERMANENT
 proxies 0
 end
-",
-    },
-    Worked {
-        shows: "locktime_says_nothing_of_operations_by_hand",
-        senders: 1,
-        script: "\
+== locktime_says_nothing_of_operations_by_hand: senders 1
 param locktime 10000000
 @0 neigh add 10.0.0.1 lladdr 00:11:22:33:44:55 nud stale
 @1 neigh change 10.0.0.1 lladdr 00:11:22:33:44:66 nud stale
 @2 neigh replace 10.0.0.1 lladdr 00:11:22:33:44:77 nud stale
 @3 send 1 10.0.0.1 01
-",
-        report: "\
+-- report
 bucket 0 lines 4
 0 0 32 add 10.0.0.1 00:11:22:33:44:55 stale -> done
 1 1 64 change 10.0.0.1 00:11:22:33:44:66 stale -> done
@@ -307,6 +260,4 @@ table 1
 10.0.0.1 dev eth0 lladdr 00:11:22:33:44:77 DELAY
 proxies 0
 end
-",
-    },
-];
+";

@@ -1,21 +1,16 @@
-//! Scripts of confirmations.
-use crate::scripts::Worked;
+//! Scripts of confirmations. The table is cut as `scripts.rt` says.
 
-pub fn scripts() -> &'static [Worked] {
-    &SCRIPTS
+pub fn table() -> &'static str {
+    TABLE
 }
 
-const SCRIPTS: [Worked; 9] = [
-    Worked {
-        shows: "confirm_prolongs_reachable",
-        senders: 1,
-        script: "\
+const TABLE: &str = "\
+== confirm_prolongs_reachable: senders 1
 @0 neigh add 10.0.0.1 lladdr 00:11:22:33:44:55 nud reachable
 @20000 confirm 10.0.0.1
 @50009 neigh show
 @50010 neigh show
-",
-        report: "\
+-- report
 bucket 0 lines 8
 0 0 32 add 10.0.0.1 00:11:22:33:44:55 reachable -> done
 1 20000 64 confirm 10.0.0.1 -> done
@@ -39,19 +34,13 @@ table 1
 10.0.0.1 dev eth0 lladdr 00:11:22:33:44:55 STALE
 proxies 0
 end
-",
-    },
-    Worked {
-        shows: "confirm_between_the_two_last_timers",
-        senders: 1,
-        script: "\
+== confirm_between_the_two_last_timers: senders 1
 @0 neigh add 10.0.0.1 lladdr 00:11:22:33:44:55 nud reachable
 @0 neigh add 10.0.0.3 lladdr 00:11:22:33:44:66 nud reachable
 @30000 confirm 10.0.0.3
 @30010 confirm 10.0.0.1
 @60000 neigh show
-",
-        report: "\
+-- report
 bucket 0 lines 12
 0 0 32 add 10.0.0.1 00:11:22:33:44:55 reachable -> done
 1 0 64 add 10.0.0.3 00:11:22:33:44:66 reachable -> done
@@ -81,18 +70,12 @@ table 2
 10.0.0.3 dev eth0 lladdr 00:11:22:33:44:66 REACHABLE
 proxies 0
 end
-",
-    },
-    Worked {
-        shows: "confirm_in_delay",
-        senders: 1,
-        script: "\
+== confirm_in_delay: senders 1
 @0 neigh add 10.0.0.1 lladdr 00:11:22:33:44:55 nud stale
 @0 send 1 10.0.0.1 01
 @4000 confirm 10.0.0.1
 @6000 neigh show
-",
-        report: "\
+-- report
 bucket 0 lines 5
 0 0 32 add 10.0.0.1 00:11:22:33:44:55 stale -> done
 1 0 33 send 10.0.0.1 -> sent
@@ -113,20 +96,14 @@ table 1
 10.0.0.1 dev eth0 lladdr 00:11:22:33:44:55 REACHABLE
 proxies 0
 end
-",
-    },
-    Worked {
-        shows: "confirm_in_delay_with_short_reachable_time",
-        senders: 1,
-        script: "\
+== confirm_in_delay_with_short_reachable_time: senders 1
 param base_reachable_time 10
 @0 neigh add 10.0.0.1 lladdr 00:11:22:33:44:55 nud stale
 @0 send 1 10.0.0.1 01
 @4000 confirm 10.0.0.1
 @5009 neigh show
 @5010 neigh show
-",
-        report: "\
+-- report
 bucket 0 lines 7
 0 0 32 add 10.0.0.1 00:11:22:33:44:55 stale -> done
 1 0 33 send 10.0.0.1 -> sent
@@ -151,19 +128,13 @@ table 1
 10.0.0.1 dev eth0 lladdr 00:11:22:33:44:55 STALE
 proxies 0
 end
-",
-    },
-    Worked {
-        shows: "confirm_at_the_due_of_delay_comes_too_late",
-        senders: 1,
-        script: "\
+== confirm_at_the_due_of_delay_comes_too_late: senders 1
 @0 neigh add 10.0.0.1 lladdr 00:11:22:33:44:55 nud stale
 @0 send 1 10.0.0.1 01
 @5000 confirm 10.0.0.1
 @5000 send 1 10.0.0.1 02
 @8000 neigh show
-",
-        report: "\
+-- report
 bucket 0 lines 9
 0 0 32 add 10.0.0.1 00:11:22:33:44:55 stale -> done
 1 0 33 send 10.0.0.1 -> sent
@@ -193,12 +164,7 @@ table 1
 10.0.0.1 dev eth0 FAILED
 proxies 0
 end
-",
-    },
-    Worked {
-        shows: "confirm_counts_from_the_moment_of_the_send",
-        senders: 1,
-        script: "\
+== confirm_counts_from_the_moment_of_the_send: senders 1
 @0 neigh add 10.0.0.1 lladdr 00:11:22:33:44:55 nud stale
 @0 neigh add 10.0.0.3 lladdr 00:11:22:33:44:66 nud stale
 @6 confirm 10.0.0.3
@@ -206,8 +172,7 @@ end
 @7 send 1 10.0.0.1 01
 @7 send 1 10.0.0.3 02
 @5007 neigh show
-",
-        report: "\
+-- report
 bucket 0 lines 9
 0 0 32 add 10.0.0.1 00:11:22:33:44:55 stale -> done
 1 0 64 add 10.0.0.3 00:11:22:33:44:66 stale -> done
@@ -239,12 +204,7 @@ table 2
 10.0.0.3 dev eth0 lladdr 00:11:22:33:44:66 PROBE
 proxies 0
 end
-",
-    },
-    Worked {
-        shows: "reachable_delay_and_back",
-        senders: 1,
-        script: "\
+== reachable_delay_and_back: senders 1
 param base_reachable_time 100
 param delay_first_probe_time 50
 @0 neigh add 10.0.0.1 lladdr 00:11:22:33:44:55 nud stale
@@ -253,8 +213,7 @@ param delay_first_probe_time 50
 @80 send 1 10.0.0.1 02
 @129 neigh show
 @180 neigh show
-",
-        report: "\
+-- report
 bucket 0 lines 10
 0 0 32 add 10.0.0.1 00:11:22:33:44:55 stale -> done
 1 0 33 send 10.0.0.1 -> sent
@@ -285,19 +244,13 @@ table 1
 10.0.0.1 dev eth0 lladdr 00:11:22:33:44:55 PROBE
 proxies 0
 end
-",
-    },
-    Worked {
-        shows: "delay_longer_than_the_reachable_time",
-        senders: 1,
-        script: "\
+== delay_longer_than_the_reachable_time: senders 1
 param delay_first_probe_time 40000
 @0 neigh add 10.0.0.1 lladdr 00:11:22:33:44:55 nud reachable
 @30010 neigh show
 @50000 confirm 10.0.0.1
 @70010 neigh show
-",
-        report: "\
+-- report
 bucket 0 lines 9
 0 0 32 add 10.0.0.1 00:11:22:33:44:55 reachable -> done
 1 30000 - timer 10.0.0.1 -> -
@@ -322,12 +275,7 @@ table 1
 10.0.0.1 dev eth0 lladdr 00:11:22:33:44:55 REACHABLE
 proxies 0
 end
-",
-    },
-    Worked {
-        shows: "confirm_needs_a_valid_state",
-        senders: 1,
-        script: "\
+== confirm_needs_a_valid_state: senders 1
 @0 confirm 10.0.0.1
 @0 neigh add 10.0.0.1 lladdr 00:11:22:33:44:55
 @0 neigh add 10.0.0.3 lladdr 00:11:22:33:44:66 nud noarp
@@ -337,8 +285,7 @@ end
 @1 confirm 10.0.0.4
 @2 neigh del 10.0.0.1
 @2 confirm 10.0.0.1
-",
-        report: "\
+-- report
 bucket 0 lines 9
 0 0 32 confirm 10.0.0.1 -> ignored
 1 0 64 add 10.0.0.1 00:11:22:33:44:55 permanent -> done
@@ -369,6 +316,4 @@ table 2
 10.0.0.4 dev eth0 INCOMPLETE
 proxies 0
 end
-",
-    },
-];
+";

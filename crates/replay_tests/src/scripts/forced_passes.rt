@@ -1,15 +1,11 @@
-//! Scripts of tables that fill and of forced passes.
-use crate::scripts::Worked;
+//! Scripts of tables that fill and of forced passes. The table is cut as `scripts.rt` says.
 
-pub fn scripts() -> &'static [Worked] {
-    &SCRIPTS
+pub fn table() -> &'static str {
+    TABLE
 }
 
-const SCRIPTS: [Worked; 9] = [
-    Worked {
-        shows: "full_table_and_forced_pass",
-        senders: 1,
-        script: "\
+const TABLE: &str = "\
+== full_table_and_forced_pass: senders 1
 param gc_thresh1 1
 param gc_thresh2 2
 param gc_thresh3 3
@@ -18,8 +14,7 @@ param gc_thresh3 3
 @0 send 1 10.0.0.13 03
 @0 send 1 10.0.0.14 04
 @5001 send 1 10.0.0.14 05
-",
-        report: "\
+-- report
 bucket 0 lines 16
 0 0 33 send 10.0.0.11 -> waits
   solicit ffffffffffff020000000002080600010800060400010200000000020a0000020000000000000a00000b
@@ -69,12 +64,7 @@ table 2
 10.0.0.14 dev eth0 INCOMPLETE
 proxies 0
 end
-",
-    },
-    Worked {
-        shows: "pass_that_takes_nothing_is_the_last_one",
-        senders: 1,
-        script: "\
+== pass_that_takes_nothing_is_the_last_one: senders 1
 param gc_thresh2 1
 param gc_thresh3 9
 @1 neigh add 10.0.0.11 lladdr 00:11:22:33:44:55 nud stale
@@ -83,8 +73,7 @@ param gc_thresh3 9
 @10001 neigh add 10.0.0.14 lladdr 00:11:22:33:44:55 nud stale
 @10002 neigh add 10.0.0.15 lladdr 00:11:22:33:44:55 nud stale
 @10003 neigh show
-",
-        report: "\
+-- report
 bucket 0 lines 8
 0 1 32 add 10.0.0.11 00:11:22:33:44:55 stale -> done
 1 5001 64 add 10.0.0.12 00:11:22:33:44:55 stale -> done
@@ -113,12 +102,7 @@ table 3
 10.0.0.15 dev eth0 lladdr 00:11:22:33:44:55 STALE
 proxies 0
 end
-",
-    },
-    Worked {
-        shows: "second_threshold_above_the_third",
-        senders: 1,
-        script: "\
+== second_threshold_above_the_third: senders 1
 param gc_thresh1 1
 param gc_thresh2 3
 param gc_thresh3 2
@@ -129,8 +113,7 @@ param gc_thresh3 2
 @6001 neigh add 10.0.0.14 lladdr 00:11:22:33:44:55 nud stale
 @20000 neigh add 10.0.0.15 lladdr 00:11:22:33:44:55 nud stale
 @20000 neigh show
-",
-        report: "\
+-- report
 bucket 0 lines 7
 0 0 32 add 10.0.0.11 00:11:22:33:44:55 stale -> done
 1 0 64 add 10.0.0.12 00:11:22:33:44:55 stale -> done
@@ -157,12 +140,7 @@ table 2
 10.0.0.14 dev eth0 lladdr 00:11:22:33:44:55 STALE
 proxies 0
 end
-",
-    },
-    Worked {
-        shows: "pass_spares_permanent_noarp_and_waiting",
-        senders: 1,
-        script: "\
+== pass_spares_permanent_noarp_and_waiting: senders 1
 param gc_thresh2 1
 param gc_thresh3 5
 param mcast_solicit 10
@@ -173,8 +151,7 @@ param mcast_solicit 10
 @5000 neigh add 10.0.0.6 lladdr 00:11:22:33:44:77 nud stale
 @5001 neigh replace 10.0.0.7 lladdr 00:11:22:33:44:77 nud stale
 @5002 neigh show
-",
-        report: "\
+-- report
 bucket 0 lines 13
 0 0 32 add 10.0.0.1 00:11:22:33:44:55 permanent -> done
 1 0 64 add 10.0.0.3 00:11:22:33:44:66 stale -> done
@@ -220,12 +197,7 @@ table 5
 10.0.0.7 dev eth0 lladdr 00:11:22:33:44:77 STALE
 proxies 0
 end
-",
-    },
-    Worked {
-        shows: "pass_goes_in_order_of_making",
-        senders: 1,
-        script: "\
+== pass_goes_in_order_of_making: senders 1
 param gc_thresh2 3
 param gc_thresh3 9
 @0 neigh add 10.0.0.13 lladdr 00:11:22:33:44:55 nud stale
@@ -237,8 +209,7 @@ param gc_thresh3 9
 @5001 neigh show
 @10002 neigh add 10.0.0.11 lladdr 00:11:22:33:44:55 nud stale
 @10002 neigh show
-",
-        report: "\
+-- report
 bucket 0 lines 11
 0 0 32 add 10.0.0.13 00:11:22:33:44:55 stale -> done
 1 0 64 add 10.0.0.11 00:11:22:33:44:55 stale -> done
@@ -276,12 +247,7 @@ table 3
 10.0.0.14 dev eth0 lladdr 00:11:22:33:44:55 STALE
 proxies 0
 end
-",
-    },
-    Worked {
-        shows: "pass_takes_failed_entries_at_once",
-        senders: 1,
-        script: "\
+== pass_takes_failed_entries_at_once: senders 1
 param gc_thresh1 1
 param gc_thresh2 1
 param gc_thresh3 2
@@ -291,8 +257,7 @@ param mcast_solicit 0
 @1 send 1 10.0.0.13 03
 @1 send 1 10.0.0.14 04
 @1 neigh show
-",
-        report: "\
+-- report
 bucket 0 lines 7
 0 0 33 send 10.0.0.11 -> noprobes
   drop 33 noprobes
@@ -321,12 +286,7 @@ table 2
 10.0.0.14 dev eth0 FAILED
 proxies 0
 end
-",
-    },
-    Worked {
-        shows: "pass_goes_by_the_last_change_of_state",
-        senders: 1,
-        script: "\
+== pass_goes_by_the_last_change_of_state: senders 1
 param gc_thresh2 2
 param gc_thresh3 9
 param delay_first_probe_time 30000
@@ -336,8 +296,7 @@ param delay_first_probe_time 30000
 @2 confirm 10.0.0.12
 @5001 neigh add 10.0.0.13 lladdr 00:11:22:33:44:55 nud stale
 @5002 neigh show
-",
-        report: "\
+-- report
 bucket 0 lines 7
 0 0 32 add 10.0.0.11 00:11:22:33:44:55 stale -> done
 1 0 64 add 10.0.0.12 00:11:22:33:44:55 stale -> done
@@ -364,12 +323,7 @@ table 2
 10.0.0.13 dev eth0 lladdr 00:11:22:33:44:55 STALE
 proxies 0
 end
-",
-    },
-    Worked {
-        shows: "collected_key_keeps_its_rank_and_loses_its_timer",
-        senders: 1,
-        script: "\
+== collected_key_keeps_its_rank_and_loses_its_timer: senders 1
 param gc_thresh1 1
 param gc_thresh2 2
 param gc_thresh3 2
@@ -379,8 +333,7 @@ param gc_thresh3 2
 @5002 neigh del 10.0.0.12
 @5002 neigh add 10.0.0.11 lladdr 00:11:22:33:44:55 nud stale
 @30010 neigh show
-",
-        report: "\
+-- report
 bucket 0 lines 8
 0 0 32 add 10.0.0.11 00:11:22:33:44:55 reachable -> done
 1 0 64 add 10.0.0.12 00:11:22:33:44:66 reachable -> done
@@ -407,12 +360,7 @@ table 2
 10.0.0.13 dev eth0 lladdr 00:11:22:33:44:55 STALE
 proxies 0
 end
-",
-    },
-    Worked {
-        shows: "full_for_each_operation_that_makes",
-        senders: 1,
-        script: "\
+== full_for_each_operation_that_makes: senders 1
 param gc_thresh1 1
 param gc_thresh2 1
 param gc_thresh3 1
@@ -430,8 +378,7 @@ param gc_thresh3 1
 @2 neigh del 10.0.0.1
 @2 neigh add 10.0.0.3 lladdr 00:11:22:33:44:66
 @2 neigh show
-",
-        report: "\
+-- report
 bucket 0 lines 14
 0 0 32 add 10.0.0.1 00:11:22:33:44:55 permanent -> done
 1 0 33 send 10.0.0.3 -> full 1
@@ -472,6 +419,4 @@ table 1
 10.0.0.3 dev eth0 lladdr 00:11:22:33:44:66 PERMANENT
 proxies 0
 end
-",
-    },
-];
+";

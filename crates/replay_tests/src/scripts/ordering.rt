@@ -1,20 +1,15 @@
-//! Scripts of the order of keys, of looks and of several senders.
-use crate::scripts::Worked;
+//! Scripts of the order of keys, of looks and of several senders. The table is cut as `scripts.rt` says.
 
-pub fn scripts() -> &'static [Worked] {
-    &SCRIPTS
+pub fn table() -> &'static str {
+    TABLE
 }
 
-const SCRIPTS: [Worked; 9] = [
-    Worked {
-        shows: "ties_go_by_rank",
-        senders: 1,
-        script: "\
+const TABLE: &str = "\
+== ties_go_by_rank: senders 1
 @0 send 1 10.0.0.7 01
 @0 send 1 10.0.0.5 02
 @1000 neigh show
-",
-        report: "\
+-- report
 bucket 0 lines 5
 0 0 33 send 10.0.0.7 -> waits
   solicit ffffffffffff020000000002080600010800060400010200000000020a0000020000000000000a000007
@@ -41,19 +36,13 @@ table 2
 10.0.0.5 dev eth0 INCOMPLETE
 proxies 0
 end
-",
-    },
-    Worked {
-        shows: "ties_go_by_rank_not_by_arming",
-        senders: 1,
-        script: "\
+== ties_go_by_rank_not_by_arming: senders 1
 param delay_first_probe_time 1000
 @0 neigh add 10.0.0.9 lladdr 00:11:22:33:44:55 nud stale
 @0 send 1 10.0.0.7 01
 @0 send 1 10.0.0.9 02
 @1000 neigh show
-",
-        report: "\
+-- report
 bucket 0 lines 6
 0 0 32 add 10.0.0.9 00:11:22:33:44:55 stale -> done
 1 0 33 send 10.0.0.7 -> waits
@@ -81,17 +70,11 @@ table 2
 10.0.0.7 dev eth0 INCOMPLETE
 proxies 0
 end
-",
-    },
-    Worked {
-        shows: "looks_at_an_empty_table",
-        senders: 1,
-        script: "\
+== looks_at_an_empty_table: senders 1
 @0 neigh show
 @0 neigh flush
 @5 neigh show dev eth0
-",
-        report: "\
+-- report
 bucket 0 lines 3
 0 0 32 show -> counted 0
 1 0 64 flush -> counted 0
@@ -106,12 +89,7 @@ fates sent 0 fast 0 dropped 0 waiting 0
 table 0
 proxies 0
 end
-",
-    },
-    Worked {
-        shows: "one_look_at_six_states",
-        senders: 1,
-        script: "\
+== one_look_at_six_states: senders 1
 @0 neigh add 10.0.0.4 lladdr 00:11:22:33:44:77 nud stale
 @0 neigh add 10.0.0.5 lladdr 00:11:22:33:44:55 nud stale
 @0 neigh add 10.0.0.8 lladdr 00:11:22:33:44:66 nud reachable
@@ -121,8 +99,7 @@ end
 @4000 send 1 10.0.0.4 03
 @5100 send 1 10.0.0.7 04
 @5200 neigh show
-",
-        report: "\
+-- report
 bucket 0 lines 13
 0 0 32 add 10.0.0.4 00:11:22:33:44:77 stale -> done
 1 0 64 add 10.0.0.5 00:11:22:33:44:55 stale -> done
@@ -175,20 +152,14 @@ table 6
 10.0.0.7 dev eth0 INCOMPLETE
 proxies 0
 end
-",
-    },
-    Worked {
-        shows: "senders_go_by_number_at_equal_moments",
-        senders: 3,
-        script: "\
+== senders_go_by_number_at_equal_moments: senders 3
 senders 3
 @5 send 3 10.0.0.1 03
 @5 send 1 10.0.0.1 01
 @5 send 2 10.0.0.1 02
 @5 send 1 10.0.0.1 04
 @5 neigh add 10.0.0.1 lladdr 00:11:22:33:44:55 nud stale
-",
-        report: "\
+-- report
 bucket 0 lines 5
 0 5 32 add 10.0.0.1 00:11:22:33:44:55 stale -> done
 1 5 33 send 10.0.0.1 -> sent
@@ -214,12 +185,7 @@ table 1
 10.0.0.1 dev eth0 lladdr 00:11:22:33:44:55 DELAY
 proxies 0
 end
-",
-    },
-    Worked {
-        shows: "sixteen_senders_and_room_for_two",
-        senders: 16,
-        script: "\
+== sixteen_senders_and_room_for_two: senders 16
 senders 16
 param unres_qlen_bytes 514
 @0 send 16 10.0.0.1 10
@@ -227,8 +193,7 @@ param unres_qlen_bytes 514
 @0 send 9 10.0.0.1 09
 @1 neigh show
 @1000 send 9 10.0.0.1 0a
-",
-        report: "\
+-- report
 bucket 0 lines 6
 0 0 34 send 10.0.0.1 -> waits
   solicit ffffffffffff020000000002080600010800060400010200000000020a0000020000000000000a000001
@@ -273,20 +238,14 @@ table 1
 10.0.0.1 dev eth0 INCOMPLETE
 proxies 0
 end
-",
-    },
-    Worked {
-        shows: "flush_before_the_sends_of_its_moment",
-        senders: 2,
-        script: "\
+== flush_before_the_sends_of_its_moment: senders 2
 senders 2
 @0 send 2 10.0.0.1 01
 @5 send 1 10.0.0.1 02
 @5 send 2 10.0.0.3 03
 @5 neigh flush
 @5 neigh show
-",
-        report: "\
+-- report
 bucket 0 lines 5
 0 0 34 send 10.0.0.1 -> waits
   solicit ffffffffffff020000000002080600010800060400010200000000020a0000020000000000000a000001
@@ -315,20 +274,14 @@ table 2
 10.0.0.3 dev eth0 INCOMPLETE
 proxies 0
 end
-",
-    },
-    Worked {
-        shows: "packets_of_two_senders_drop_in_queue_order",
-        senders: 2,
-        script: "\
+== packets_of_two_senders_drop_in_queue_order: senders 2
 senders 2
 param retrans_time 100
 @0 send 2 10.0.0.1 01
 @1 send 1 10.0.0.1 02
 @1 send 2 10.0.0.1 03
 @300 neigh show
-",
-        report: "\
+-- report
 bucket 0 lines 7
 0 0 34 send 10.0.0.1 -> waits
   solicit ffffffffffff020000000002080600010800060400010200000000020a0000020000000000000a000001
@@ -360,20 +313,14 @@ table 1
 10.0.0.1 dev eth0 FAILED
 proxies 0
 end
-",
-    },
-    Worked {
-        shows: "later_senders_line_counts",
-        senders: 2,
-        script: "\
+== later_senders_line_counts: senders 2
 senders 1
 senders 2
 @3 neigh add 10.0.0.1 lladdr 00:11:22:33:44:55 nud reachable
 @3 send 2 10.0.0.1 0102030405
 @4 send 2 10.0.0.1 06
 @4 send 1 10.0.0.1 07
-",
-        report: "\
+-- report
 bucket 0 lines 4
 0 3 32 add 10.0.0.1 00:11:22:33:44:55 reachable -> done
 1 3 34 send 10.0.0.1 -> sent
@@ -395,6 +342,4 @@ table 1
 10.0.0.1 dev eth0 lladdr 00:11:22:33:44:55 REACHABLE
 proxies 0
 end
-",
-    },
-];
+";

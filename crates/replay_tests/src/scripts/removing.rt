@@ -1,22 +1,17 @@
-//! Scripts of removal by hand.
-use crate::scripts::Worked;
+//! Scripts of removal by hand. The table is cut as `scripts.rt` says.
 
-pub fn scripts() -> &'static [Worked] {
-    &SCRIPTS
+pub fn table() -> &'static str {
+    TABLE
 }
 
-const SCRIPTS: [Worked; 8] = [
-    Worked {
-        shows: "del_of_an_incomplete_entry_drops_its_packets",
-        senders: 1,
-        script: "\
+const TABLE: &str = "\
+== del_of_an_incomplete_entry_drops_its_packets: senders 1
 @0 send 1 10.0.0.1 01
 @0 send 1 10.0.0.1 02
 @500 neigh del 10.0.0.1 dev eth0
 @500 neigh del 10.0.0.1
 @1500 neigh show
-",
-        report: "\
+-- report
 bucket 0 lines 5
 0 0 33 send 10.0.0.1 -> waits
   solicit ffffffffffff020000000002080600010800060400010200000000020a0000020000000000000a000001
@@ -40,18 +35,12 @@ fates sent 0 fast 0 dropped 2 waiting 0
 table 0
 proxies 0
 end
-",
-    },
-    Worked {
-        shows: "removed_entry_begins_anew",
-        senders: 1,
-        script: "\
+== removed_entry_begins_anew: senders 1
 @0 send 1 10.0.0.1 01
 @2500 neigh del 10.0.0.1
 @2600 send 1 10.0.0.1 02
 @5600 neigh show
-",
-        report: "\
+-- report
 bucket 0 lines 9
 0 0 33 send 10.0.0.1 -> waits
   solicit ffffffffffff020000000002080600010800060400010200000000020a0000020000000000000a000001
@@ -85,12 +74,7 @@ table 1
 10.0.0.1 dev eth0 FAILED
 proxies 0
 end
-",
-    },
-    Worked {
-        shows: "del_of_noarp_reachable_and_failed",
-        senders: 1,
-        script: "\
+== del_of_noarp_reachable_and_failed: senders 1
 param mcast_solicit 0
 @0 neigh add 10.0.0.1 lladdr 00:11:22:33:44:55 nud noarp
 @0 neigh add 10.0.0.4 lladdr 00:11:22:33:44:77 nud reachable
@@ -99,8 +83,7 @@ param mcast_solicit 0
 @1 neigh del 10.0.0.4
 @1 neigh del 10.0.0.5
 @40000 neigh show
-",
-        report: "\
+-- report
 bucket 0 lines 8
 0 0 32 add 10.0.0.1 00:11:22:33:44:55 noarp -> done
 1 0 64 add 10.0.0.4 00:11:22:33:44:77 reachable -> done
@@ -125,12 +108,7 @@ fates sent 0 fast 0 dropped 1 waiting 0
 table 0
 proxies 0
 end
-",
-    },
-    Worked {
-        shows: "del_in_delay_and_probe_ends_their_timers",
-        senders: 1,
-        script: "\
+== del_in_delay_and_probe_ends_their_timers: senders 1
 @0 neigh add 10.0.0.1 lladdr 00:11:22:33:44:55 nud stale
 @0 neigh add 10.0.0.3 lladdr 00:11:22:33:44:66 nud stale
 @0 send 1 10.0.0.1 01
@@ -138,8 +116,7 @@ end
 @5500 neigh del 10.0.0.1
 @5500 neigh del 10.0.0.3
 @9000 neigh show
-",
-        report: "\
+-- report
 bucket 0 lines 8
 0 0 32 add 10.0.0.1 00:11:22:33:44:55 stale -> done
 1 0 64 add 10.0.0.3 00:11:22:33:44:66 stale -> done
@@ -166,12 +143,7 @@ fates sent 2 fast 0 dropped 0 waiting 0
 table 0
 proxies 0
 end
-",
-    },
-    Worked {
-        shows: "rank_stays_behind_a_removal",
-        senders: 1,
-        script: "\
+== rank_stays_behind_a_removal: senders 1
 @0 send 1 10.0.0.7 01
 @0 send 1 10.0.0.5 02
 @10 neigh del 10.0.0.5
@@ -180,8 +152,7 @@ end
 @20 send 1 10.0.0.7 04
 @1020 neigh show
 @1030 neigh flush
-",
-        report: "\
+-- report
 bucket 0 lines 10
 0 0 33 send 10.0.0.7 -> waits
   solicit ffffffffffff020000000002080600010800060400010200000000020a0000020000000000000a000007
@@ -224,17 +195,11 @@ fates sent 0 fast 0 dropped 4 waiting 0
 table 0
 proxies 0
 end
-",
-    },
-    Worked {
-        shows: "flush_spares_permanent",
-        senders: 1,
-        script: "\
+== flush_spares_permanent: senders 1
 @0 neigh add 10.0.0.1 lladdr 00:11:22:33:44:55
 @0 neigh add 10.0.0.3 lladdr 00:11:22:33:44:66 nud stale
 @1 neigh flush
-",
-        report: "\
+-- report
 bucket 0 lines 3
 0 0 32 add 10.0.0.1 00:11:22:33:44:55 permanent -> done
 1 0 64 add 10.0.0.3 00:11:22:33:44:66 stale -> done
@@ -250,12 +215,7 @@ table 1
 10.0.0.1 dev eth0 lladdr 00:11:22:33:44:55 PERMANENT
 proxies 0
 end
-",
-    },
-    Worked {
-        shows: "flush_drops_what_waits_by_rank",
-        senders: 1,
-        script: "\
+== flush_drops_what_waits_by_rank: senders 1
 @0 neigh add 10.0.0.1 lladdr 00:11:22:33:44:55
 @0 neigh add 10.0.0.3 lladdr 00:11:22:33:44:66 nud noarp
 @0 neigh add 10.0.0.4 lladdr 00:11:22:33:44:77 nud stale
@@ -265,8 +225,7 @@ end
 @0 send 1 10.0.0.7 03
 @1 neigh flush all dev eth0
 @2 neigh show
-",
-        report: "\
+-- report
 bucket 0 lines 9
 0 0 32 add 10.0.0.1 00:11:22:33:44:55 permanent -> done
 1 0 64 add 10.0.0.3 00:11:22:33:44:66 noarp -> done
@@ -305,12 +264,7 @@ table 2
 10.0.0.3 dev eth0 lladdr 00:11:22:33:44:66 NOARP
 proxies 0
 end
-",
-    },
-    Worked {
-        shows: "flush_takes_delay_probe_and_failed",
-        senders: 1,
-        script: "\
+== flush_takes_delay_probe_and_failed: senders 1
 param mcast_solicit 0
 @0 neigh add 10.0.0.1 lladdr 00:11:22:33:44:55 nud stale
 @0 neigh add 10.0.0.3 lladdr 00:11:22:33:44:66 nud stale
@@ -320,8 +274,7 @@ param mcast_solicit 0
 @5501 neigh flush
 @5502 neigh flush
 @9000 neigh show
-",
-        report: "\
+-- report
 bucket 0 lines 9
 0 0 32 add 10.0.0.1 00:11:22:33:44:55 stale -> done
 1 0 64 add 10.0.0.3 00:11:22:33:44:66 stale -> done
@@ -351,6 +304,4 @@ fates sent 2 fast 0 dropped 1 waiting 0
 table 0
 proxies 0
 end
-",
-    },
-];
+";

@@ -1,15 +1,11 @@
-//! Scripts of changes by hand that touch a timer or a confirmation.
-use crate::scripts::Worked;
+//! Scripts of changes by hand that touch a timer or a confirmation. The table is cut as `scripts.rt` says.
 
-pub fn scripts() -> &'static [Worked] {
-    &SCRIPTS
+pub fn table() -> &'static str {
+    TABLE
 }
 
-const SCRIPTS: [Worked; 6] = [
-    Worked {
-        shows: "change_by_hand_stops_the_timer",
-        senders: 1,
-        script: "\
+const TABLE: &str = "\
+== change_by_hand_stops_the_timer: senders 1
 @0 neigh add 10.0.0.1 lladdr 00:11:22:33:44:55 nud reachable
 @0 neigh add 10.0.0.3 lladdr 00:11:22:33:44:66 nud stale
 @0 neigh add 10.0.0.4 lladdr 00:11:22:33:44:77 nud stale
@@ -19,8 +15,7 @@ const SCRIPTS: [Worked; 6] = [
 @10 neigh change 10.0.0.3 nud stale
 @5500 neigh change 10.0.0.4 lladdr 00:11:22:33:44:55 nud noarp
 @60000 neigh show
-",
-        report: "\
+-- report
 bucket 0 lines 12
 0 0 32 add 10.0.0.1 00:11:22:33:44:55 reachable -> done
 1 0 64 add 10.0.0.3 00:11:22:33:44:66 stale -> done
@@ -59,20 +54,14 @@ table 3
 10.0.0.4 dev eth0 lladdr 00:11:22:33:44:55 NOARP
 proxies 0
 end
-",
-    },
-    Worked {
-        shows: "reachable_by_hand_starts_anew",
-        senders: 1,
-        script: "\
+== reachable_by_hand_starts_anew: senders 1
 @0 neigh add 10.0.0.1 lladdr 00:11:22:33:44:55 nud stale
 @0 send 1 10.0.0.1 01
 @100 neigh change 10.0.0.1 nud reachable
 @200 neigh change 10.0.0.1 lladdr 00:11:22:33:44:66 nud reachable
 @300 neigh replace 10.0.0.1 lladdr 00:11:22:33:44:66 nud reachable
 @30300 neigh show
-",
-        report: "\
+-- report
 bucket 0 lines 8
 0 0 32 add 10.0.0.1 00:11:22:33:44:55 stale -> done
 1 0 33 send 10.0.0.1 -> sent
@@ -98,19 +87,13 @@ table 1
 10.0.0.1 dev eth0 lladdr 00:11:22:33:44:66 REACHABLE
 proxies 0
 end
-",
-    },
-    Worked {
-        shows: "probe_ends_by_hand",
-        senders: 1,
-        script: "\
+== probe_ends_by_hand: senders 1
 @0 neigh add 10.0.0.1 lladdr 00:11:22:33:44:55 nud stale
 @0 send 1 10.0.0.1 01
 @6500 neigh replace 10.0.0.1 nud reachable
 @7000 send 1 10.0.0.1 02
 @36510 neigh show
-",
-        report: "\
+-- report
 bucket 0 lines 10
 0 0 32 add 10.0.0.1 00:11:22:33:44:55 stale -> done
 1 0 33 send 10.0.0.1 -> sent
@@ -140,12 +123,7 @@ table 1
 10.0.0.1 dev eth0 lladdr 00:11:22:33:44:55 STALE
 proxies 0
 end
-",
-    },
-    Worked {
-        shows: "probes_are_counted_anew_behind_a_change",
-        senders: 1,
-        script: "\
+== probes_are_counted_anew_behind_a_change: senders 1
 param delay_first_probe_time 100
 param retrans_time 100
 @0 neigh add 10.0.0.1 lladdr 00:11:22:33:44:55 nud stale
@@ -153,8 +131,7 @@ param retrans_time 100
 @250 neigh change 10.0.0.1 nud stale
 @300 send 1 10.0.0.1 02
 @700 neigh show
-",
-        report: "\
+-- report
 bucket 0 lines 11
 0 0 32 add 10.0.0.1 00:11:22:33:44:55 stale -> done
 1 0 33 send 10.0.0.1 -> sent
@@ -188,12 +165,7 @@ table 1
 10.0.0.1 dev eth0 FAILED
 proxies 0
 end
-",
-    },
-    Worked {
-        shows: "another_address_clears_the_confirmation",
-        senders: 1,
-        script: "\
+== another_address_clears_the_confirmation: senders 1
 @0 neigh add 10.0.0.1 lladdr 00:11:22:33:44:55 nud stale
 @0 neigh add 10.0.0.3 lladdr 00:11:22:33:44:55 nud stale
 @5 confirm 10.0.0.1
@@ -203,8 +175,7 @@ end
 @5 send 1 10.0.0.1 01
 @5 send 1 10.0.0.3 02
 @5005 neigh show
-",
-        report: "\
+-- report
 bucket 0 lines 11
 0 0 32 add 10.0.0.1 00:11:22:33:44:55 stale -> done
 1 0 64 add 10.0.0.3 00:11:22:33:44:55 stale -> done
@@ -240,20 +211,14 @@ table 2
 10.0.0.3 dev eth0 lladdr 00:11:22:33:44:55 REACHABLE
 proxies 0
 end
-",
-    },
-    Worked {
-        shows: "connected_state_keeps_the_confirmation",
-        senders: 1,
-        script: "\
+== connected_state_keeps_the_confirmation: senders 1
 @0 neigh add 10.0.0.1 lladdr 00:11:22:33:44:55 nud stale
 @5 confirm 10.0.0.1
 @5 neigh change 10.0.0.1 lladdr 00:11:22:33:44:66 nud permanent
 @5 neigh change 10.0.0.1 nud stale
 @5 send 1 10.0.0.1 01
 @5005 neigh show
-",
-        report: "\
+-- report
 bucket 0 lines 7
 0 0 32 add 10.0.0.1 00:11:22:33:44:55 stale -> done
 1 5 64 confirm 10.0.0.1 -> done
@@ -278,6 +243,4 @@ table 1
 10.0.0.1 dev eth0 lladdr 00:11:22:33:44:66 REACHABLE
 proxies 0
 end
-",
-    },
-];
+";

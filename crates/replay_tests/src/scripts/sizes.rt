@@ -1,16 +1,13 @@
-//! Packets of many sizes that wait for an address: each takes 256 bytes and its payload's.
-use crate::scripts::Packets;
+//! Packets of many sizes that wait for an address: each takes 256 bytes and its payload's. The table is cut as `scripts.rt` says.
 
-pub fn scripts() -> &'static [Packets] {
-    &SCRIPTS
+pub fn table() -> &'static str {
+    TABLE
 }
 
-const SCRIPTS: [Packets; 3] = [
-    Packets {
-        shows: "bytes_push_out_two",
-        parameters: "param unres_qlen_bytes 2000\n",
-        lens: &[500, 500, 1_500],
-        report: "\
+const TABLE: &str = "\
+== bytes_push_out_two: sizes 500 500 1500
+param unres_qlen_bytes 2000
+-- report
 bucket 0 lines 3
 0 0 33 send 10.0.0.1 -> waits
   solicit ffffffffffff020000000002080600010800060400010200000000020a0000020000000000000a000001
@@ -32,13 +29,9 @@ table 1
 10.0.0.1 dev eth0 INCOMPLETE
 proxies 0
 end
-",
-    },
-    Packets {
-        shows: "large_packet_waits_alone",
-        parameters: "param unres_qlen_bytes 1000\n",
-        lens: &[1_500, 1],
-        report: "\
+== large_packet_waits_alone: sizes 1500 1
+param unres_qlen_bytes 1000
+-- report
 bucket 0 lines 2
 0 0 33 send 10.0.0.1 -> waits
   solicit ffffffffffff020000000002080600010800060400010200000000020a0000020000000000000a000001
@@ -56,13 +49,8 @@ table 1
 10.0.0.1 dev eth0 INCOMPLETE
 proxies 0
 end
-",
-    },
-    Packets {
-        shows: "default_room_is_filled_to_the_byte",
-        parameters: "",
-        lens: &[1_000, 1_500, 828, 1_001],
-        report: "\
+== default_room_is_filled_to_the_byte: sizes 1000 1500 828 1001
+-- report
 bucket 0 lines 4
 0 0 33 send 10.0.0.1 -> waits
   solicit ffffffffffff020000000002080600010800060400010200000000020a0000020000000000000a000001
@@ -87,6 +75,4 @@ table 1
 10.0.0.1 dev eth0 INCOMPLETE
 proxies 0
 end
-",
-    },
-];
+";

@@ -1,20 +1,15 @@
-//! Scripts of sweeps.
-use crate::scripts::Worked;
+//! Scripts of sweeps. The table is cut as `scripts.rt` says.
 
-pub fn scripts() -> &'static [Worked] {
-    &SCRIPTS
+pub fn table() -> &'static str {
+    TABLE
 }
 
-const SCRIPTS: [Worked; 7] = [
-    Worked {
-        shows: "third_sweep_removes",
-        senders: 1,
-        script: "\
+const TABLE: &str = "\
+== third_sweep_removes: senders 1
 param gc_thresh1 1
 @0 neigh add 10.0.0.1 lladdr 00:11:22:33:44:55 nud stale
 @90000 neigh show
-",
-        report: "\
+-- report
 bucket 0 lines 5
 0 0 32 add 10.0.0.1 00:11:22:33:44:55 stale -> done
 1 30000 - sweep -> -
@@ -30,12 +25,7 @@ fates sent 0 fast 0 dropped 0 waiting 0
 table 0
 proxies 0
 end
-",
-    },
-    Worked {
-        shows: "sweep_goes_by_use_and_confirmation",
-        senders: 1,
-        script: "\
+== sweep_goes_by_use_and_confirmation: senders 1
 param gc_thresh1 1
 param gc_interval 10000
 param gc_stale_time 10000
@@ -47,8 +37,7 @@ param gc_stale_time 10000
 @10000 confirm 10.0.0.3
 @10000 neigh show
 @20000 neigh show
-",
-        report: "\
+-- report
 bucket 0 lines 10
 0 0 32 add 10.0.0.1 00:11:22:33:44:55 stale -> done
 1 0 64 add 10.0.0.3 00:11:22:33:44:66 stale -> done
@@ -85,12 +74,7 @@ table 3
 10.0.0.5 dev eth0 lladdr 00:11:22:33:44:77 PERMANENT
 proxies 0
 end
-",
-    },
-    Worked {
-        shows: "sweep_that_sees_too_few_removes_nothing",
-        senders: 1,
-        script: "\
+== sweep_that_sees_too_few_removes_nothing: senders 1
 param gc_thresh1 3
 param gc_interval 10000
 param gc_stale_time 10
@@ -99,8 +83,7 @@ param gc_stale_time 10
 @10000 neigh show
 @10001 neigh add 10.0.0.4 lladdr 00:11:22:33:44:77 nud stale
 @20000 neigh show
-",
-        report: "\
+-- report
 bucket 0 lines 7
 0 0 32 add 10.0.0.1 00:11:22:33:44:55 stale -> done
 1 0 64 add 10.0.0.3 00:11:22:33:44:66 stale -> done
@@ -123,12 +106,7 @@ fates sent 0 fast 0 dropped 0 waiting 0
 table 0
 proxies 0
 end
-",
-    },
-    Worked {
-        shows: "sweep_spares_what_waits_and_takes_what_failed",
-        senders: 1,
-        script: "\
+== sweep_spares_what_waits_and_takes_what_failed: senders 1
 param gc_thresh1 1
 param gc_interval 10000
 param retrans_time 4000
@@ -138,8 +116,7 @@ param retrans_time 4000
 @20000 neigh show
 @29999 neigh show
 @30000 neigh show
-",
-        report: "\
+-- report
 bucket 0 lines 15
 0 0 33 send 10.0.0.11 -> waits
   solicit ffffffffffff020000000002080600010800060400010200000000020a0000020000000000000a00000b
@@ -183,12 +160,7 @@ fates sent 0 fast 0 dropped 2 waiting 0
 table 0
 proxies 0
 end
-",
-    },
-    Worked {
-        shows: "timer_goes_before_the_sweep_of_its_moment",
-        senders: 1,
-        script: "\
+== timer_goes_before_the_sweep_of_its_moment: senders 1
 param gc_thresh1 1
 param gc_interval 10000
 param retrans_time 10000
@@ -196,8 +168,7 @@ param mcast_solicit 1
 @0 send 1 10.0.0.11 01
 @10000 neigh add 10.0.0.11 lladdr 00:11:22:33:44:55 nud stale
 @10001 neigh show
-",
-        report: "\
+-- report
 bucket 0 lines 5
 0 0 33 send 10.0.0.11 -> waits
   solicit ffffffffffff020000000002080600010800060400010200000000020a0000020000000000000a00000b
@@ -219,12 +190,7 @@ table 1
 10.0.0.11 dev eth0 lladdr 00:11:22:33:44:55 STALE
 proxies 0
 end
-",
-    },
-    Worked {
-        shows: "sweep_leaves_the_order_of_making",
-        senders: 1,
-        script: "\
+== sweep_leaves_the_order_of_making: senders 1
 param gc_thresh1 1
 param gc_thresh2 3
 param gc_thresh3 3
@@ -240,8 +206,7 @@ param gc_stale_time 8000
 @10001 neigh add 10.0.0.15 lladdr 00:11:22:33:44:55 nud stale
 @14501 neigh add 10.0.0.16 lladdr 00:11:22:33:44:55 nud stale
 @14501 neigh show
-",
-        report: "\
+-- report
 bucket 0 lines 13
 0 0 32 add 10.0.0.11 00:11:22:33:44:55 stale -> done
 1 0 64 add 10.0.0.12 00:11:22:33:44:55 stale -> done
@@ -281,18 +246,12 @@ table 3
 10.0.0.15 dev eth0 lladdr 00:11:22:33:44:55 STALE
 proxies 0
 end
-",
-    },
-    Worked {
-        shows: "sweeps_stand_at_every_multiple",
-        senders: 1,
-        script: "\
+== sweeps_stand_at_every_multiple: senders 1
 param gc_interval 20000
 @20000 neigh show
 @39999 neigh add 10.0.0.1 lladdr 00:11:22:33:44:55
 @80001 neigh show
-",
-        report: "\
+-- report
 bucket 0 lines 7
 0 20000 - sweep -> -
 1 20000 32 show -> counted 0
@@ -313,6 +272,4 @@ table 1
 10.0.0.1 dev eth0 lladdr 00:11:22:33:44:55 PERMANENT
 proxies 0
 end
-",
-    },
-];
+";

@@ -1,15 +1,11 @@
-//! One script under thresholds in each order, and under equal ones.
-use crate::scripts::Worked;
+//! One script under thresholds in each order, and under equal ones. The table is cut as `scripts.rt` says.
 
-pub fn scripts() -> &'static [Worked] {
-    &SCRIPTS
+pub fn table() -> &'static str {
+    TABLE
 }
 
-const SCRIPTS: [Worked; 8] = [
-    Worked {
-        shows: "thresholds_2_3_4",
-        senders: 1,
-        script: "\
+const TABLE: &str = "\
+== thresholds_2_3_4: senders 1
 param gc_thresh1 2
 param gc_thresh2 3
 param gc_thresh3 4
@@ -23,8 +19,7 @@ param gc_stale_time 10
 @5000 neigh add 10.0.0.16 lladdr 00:11:22:33:44:66 nud stale
 @5001 neigh add 10.0.0.17 lladdr 00:11:22:33:44:77 nud stale
 @10000 neigh show
-",
-        report: "\
+-- report
 bucket 0 lines 15
 0 0 32 add 10.0.0.11 00:11:22:33:44:55 stale -> done
 1 0 64 add 10.0.0.12 00:11:22:33:44:66 stale -> done
@@ -63,12 +58,7 @@ table 1
 10.0.0.13 dev eth0 lladdr 00:11:22:33:44:77 PERMANENT
 proxies 0
 end
-",
-    },
-    Worked {
-        shows: "thresholds_2_4_3",
-        senders: 1,
-        script: "\
+== thresholds_2_4_3: senders 1
 param gc_thresh1 2
 param gc_thresh2 4
 param gc_thresh3 3
@@ -82,8 +72,7 @@ param gc_stale_time 10
 @5000 neigh add 10.0.0.16 lladdr 00:11:22:33:44:66 nud stale
 @5001 neigh add 10.0.0.17 lladdr 00:11:22:33:44:77 nud stale
 @10000 neigh show
-",
-        report: "\
+-- report
 bucket 0 lines 9
 0 0 32 add 10.0.0.11 00:11:22:33:44:55 stale -> done
 1 0 64 add 10.0.0.12 00:11:22:33:44:66 stale -> done
@@ -112,12 +101,7 @@ table 1
 10.0.0.13 dev eth0 lladdr 00:11:22:33:44:77 PERMANENT
 proxies 0
 end
-",
-    },
-    Worked {
-        shows: "thresholds_3_2_4",
-        senders: 1,
-        script: "\
+== thresholds_3_2_4: senders 1
 param gc_thresh1 3
 param gc_thresh2 2
 param gc_thresh3 4
@@ -131,8 +115,7 @@ param gc_stale_time 10
 @5000 neigh add 10.0.0.16 lladdr 00:11:22:33:44:66 nud stale
 @5001 neigh add 10.0.0.17 lladdr 00:11:22:33:44:77 nud stale
 @10000 neigh show
-",
-        report: "\
+-- report
 bucket 0 lines 15
 0 0 32 add 10.0.0.11 00:11:22:33:44:55 stale -> done
 1 0 64 add 10.0.0.12 00:11:22:33:44:66 stale -> done
@@ -171,12 +154,7 @@ table 1
 10.0.0.13 dev eth0 lladdr 00:11:22:33:44:77 PERMANENT
 proxies 0
 end
-",
-    },
-    Worked {
-        shows: "thresholds_3_4_2",
-        senders: 1,
-        script: "\
+== thresholds_3_4_2: senders 1
 param gc_thresh1 3
 param gc_thresh2 4
 param gc_thresh3 2
@@ -190,8 +168,7 @@ param gc_stale_time 10
 @5000 neigh add 10.0.0.16 lladdr 00:11:22:33:44:66 nud stale
 @5001 neigh add 10.0.0.17 lladdr 00:11:22:33:44:77 nud stale
 @10000 neigh show
-",
-        report: "\
+-- report
 bucket 0 lines 9
 0 0 32 add 10.0.0.11 00:11:22:33:44:55 stale -> done
 1 0 64 add 10.0.0.12 00:11:22:33:44:66 stale -> done
@@ -222,12 +199,7 @@ table 2
 10.0.0.12 dev eth0 lladdr 00:11:22:33:44:66 STALE
 proxies 0
 end
-",
-    },
-    Worked {
-        shows: "thresholds_4_2_3",
-        senders: 1,
-        script: "\
+== thresholds_4_2_3: senders 1
 param gc_thresh1 4
 param gc_thresh2 2
 param gc_thresh3 3
@@ -241,8 +213,7 @@ param gc_stale_time 10
 @5000 neigh add 10.0.0.16 lladdr 00:11:22:33:44:66 nud stale
 @5001 neigh add 10.0.0.17 lladdr 00:11:22:33:44:77 nud stale
 @10000 neigh show
-",
-        report: "\
+-- report
 bucket 0 lines 11
 0 0 32 add 10.0.0.11 00:11:22:33:44:55 stale -> done
 1 0 64 add 10.0.0.12 00:11:22:33:44:66 stale -> done
@@ -275,12 +246,7 @@ table 2
 10.0.0.17 dev eth0 lladdr 00:11:22:33:44:77 STALE
 proxies 0
 end
-",
-    },
-    Worked {
-        shows: "thresholds_4_3_2",
-        senders: 1,
-        script: "\
+== thresholds_4_3_2: senders 1
 param gc_thresh1 4
 param gc_thresh2 3
 param gc_thresh3 2
@@ -294,8 +260,7 @@ param gc_stale_time 10
 @5000 neigh add 10.0.0.16 lladdr 00:11:22:33:44:66 nud stale
 @5001 neigh add 10.0.0.17 lladdr 00:11:22:33:44:77 nud stale
 @10000 neigh show
-",
-        report: "\
+-- report
 bucket 0 lines 9
 0 0 32 add 10.0.0.11 00:11:22:33:44:55 stale -> done
 1 0 64 add 10.0.0.12 00:11:22:33:44:66 stale -> done
@@ -326,12 +291,7 @@ table 2
 10.0.0.12 dev eth0 lladdr 00:11:22:33:44:66 STALE
 proxies 0
 end
-",
-    },
-    Worked {
-        shows: "thresholds_2_2_2",
-        senders: 1,
-        script: "\
+== thresholds_2_2_2: senders 1
 param gc_thresh1 2
 param gc_thresh2 2
 param gc_thresh3 2
@@ -345,8 +305,7 @@ param gc_stale_time 10
 @5000 neigh add 10.0.0.16 lladdr 00:11:22:33:44:66 nud stale
 @5001 neigh add 10.0.0.17 lladdr 00:11:22:33:44:77 nud stale
 @10000 neigh show
-",
-        report: "\
+-- report
 bucket 0 lines 10
 0 0 32 add 10.0.0.11 00:11:22:33:44:55 stale -> done
 1 0 64 add 10.0.0.12 00:11:22:33:44:66 stale -> done
@@ -374,12 +333,7 @@ fates sent 0 fast 0 dropped 1 waiting 0
 table 0
 proxies 0
 end
-",
-    },
-    Worked {
-        shows: "thresholds_4_4_4",
-        senders: 1,
-        script: "\
+== thresholds_4_4_4: senders 1
 param gc_thresh1 4
 param gc_thresh2 4
 param gc_thresh3 4
@@ -393,8 +347,7 @@ param gc_stale_time 10
 @5000 neigh add 10.0.0.16 lladdr 00:11:22:33:44:66 nud stale
 @5001 neigh add 10.0.0.17 lladdr 00:11:22:33:44:77 nud stale
 @10000 neigh show
-",
-        report: "\
+-- report
 bucket 0 lines 14
 0 0 32 add 10.0.0.11 00:11:22:33:44:55 stale -> done
 1 0 64 add 10.0.0.12 00:11:22:33:44:66 stale -> done
@@ -432,6 +385,4 @@ table 1
 10.0.0.13 dev eth0 lladdr 00:11:22:33:44:77 PERMANENT
 proxies 0
 end
-",
-    },
-];
+";

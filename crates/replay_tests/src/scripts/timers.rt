@@ -1,22 +1,17 @@
-//! Scripts of timers and sweeps.
-use crate::scripts::Worked;
+//! Scripts of timers and sweeps. The table is cut as `scripts.rt` says.
 
-pub fn scripts() -> &'static [Worked] {
-    &SCRIPTS
+pub fn table() -> &'static str {
+    TABLE
 }
 
-const SCRIPTS: [Worked; 10] = [
-    Worked {
-        shows: "permanent_and_noarp_need_no_timers",
-        senders: 1,
-        script: "\
+const TABLE: &str = "\
+== permanent_and_noarp_need_no_timers: senders 1
 @0 neigh add 10.0.0.1 lladdr 00:11:22:33:44:55
 @0 neigh add 10.0.0.3 lladdr 00:11:22:33:44:66 nud noarp
 @100000 send 1 10.0.0.1 01
 @100000 send 1 10.0.0.3 02
 @200000 neigh show
-",
-        report: "\
+-- report
 bucket 0 lines 11
 0 0 32 add 10.0.0.1 00:11:22:33:44:55 permanent -> done
 1 0 64 add 10.0.0.3 00:11:22:33:44:66 noarp -> done
@@ -47,19 +42,13 @@ table 2
 10.0.0.3 dev eth0 lladdr 00:11:22:33:44:66 NOARP
 proxies 0
 end
-",
-    },
-    Worked {
-        shows: "stale_delay_probe_failed",
-        senders: 1,
-        script: "\
+== stale_delay_probe_failed: senders 1
 @0 neigh add 10.0.0.1 lladdr 00:11:22:33:44:55 nud stale
 @10 send 1 10.0.0.1 01
 @4000 send 1 10.0.0.1 02
 @6000 send 1 10.0.0.1 03
 @8010 send 1 10.0.0.1 04
-",
-        report: "\
+-- report
 bucket 0 lines 9
 0 0 32 add 10.0.0.1 00:11:22:33:44:55 stale -> done
 1 10 33 send 10.0.0.1 -> sent
@@ -91,12 +80,7 @@ table 1
 10.0.0.1 dev eth0 INCOMPLETE
 proxies 0
 end
-",
-    },
-    Worked {
-        shows: "one_unicast_probe",
-        senders: 1,
-        script: "\
+== one_unicast_probe: senders 1
 param ucast_solicit 1
 param delay_first_probe_time 10
 param retrans_time 20
@@ -104,8 +88,7 @@ param retrans_time 20
 @5 send 1 10.0.0.1 01
 @15 neigh show
 @35 neigh show
-",
-        report: "\
+-- report
 bucket 0 lines 6
 0 0 32 add 10.0.0.1 00:11:22:33:44:55 stale -> done
 1 5 33 send 10.0.0.1 -> sent
@@ -129,19 +112,13 @@ table 1
 10.0.0.1 dev eth0 FAILED
 proxies 0
 end
-",
-    },
-    Worked {
-        shows: "delay_without_unicast_probes",
-        senders: 1,
-        script: "\
+== delay_without_unicast_probes: senders 1
 param ucast_solicit 0
 @0 neigh add 10.0.0.1 lladdr 00:11:22:33:44:55 nud stale
 @0 send 1 10.0.0.1 4500
 @4999 neigh show
 @5000 neigh show
-",
-        report: "\
+-- report
 bucket 0 lines 5
 0 0 32 add 10.0.0.1 00:11:22:33:44:55 stale -> done
 1 0 33 send 10.0.0.1 -> sent
@@ -163,16 +140,10 @@ table 1
 10.0.0.1 dev eth0 FAILED
 proxies 0
 end
-",
-    },
-    Worked {
-        shows: "reachable_turns_stale",
-        senders: 1,
-        script: "\
+== reachable_turns_stale: senders 1
 @0 neigh add 10.0.0.1 lladdr 00:11:22:33:44:55 nud reachable
 @40000 neigh show
-",
-        report: "\
+-- report
 bucket 0 lines 5
 0 0 32 add 10.0.0.1 00:11:22:33:44:55 reachable -> done
 1 30000 - timer 10.0.0.1 -> -
@@ -190,20 +161,14 @@ table 1
 10.0.0.1 dev eth0 lladdr 00:11:22:33:44:55 STALE
 proxies 0
 end
-",
-    },
-    Worked {
-        shows: "use_just_within_five_seconds_delays",
-        senders: 1,
-        script: "\
+== use_just_within_five_seconds_delays: senders 1
 @0 neigh add 10.0.0.1 lladdr 00:11:22:33:44:55 nud reachable
 @0 neigh add 10.0.0.3 lladdr 00:11:22:33:44:66 nud reachable
 @25009 send 1 10.0.0.3 01
 @25010 send 1 10.0.0.1 02
 @30010 neigh show
 @35010 neigh show
-",
-        report: "\
+-- report
 bucket 0 lines 12
 0 0 32 add 10.0.0.1 00:11:22:33:44:55 reachable -> done
 1 0 64 add 10.0.0.3 00:11:22:33:44:66 reachable -> done
@@ -239,18 +204,12 @@ table 2
 10.0.0.3 dev eth0 lladdr 00:11:22:33:44:66 STALE
 proxies 0
 end
-",
-    },
-    Worked {
-        shows: "making_an_entry_counts_as_use",
-        senders: 1,
-        script: "\
+== making_an_entry_counts_as_use: senders 1
 param base_reachable_time 10
 @0 neigh add 10.0.0.1 lladdr 00:11:22:33:44:55 nud reachable
 @20 neigh show
 @9000 neigh show
-",
-        report: "\
+-- report
 bucket 0 lines 9
 0 0 32 add 10.0.0.1 00:11:22:33:44:55 reachable -> done
 1 10 - timer 10.0.0.1 -> -
@@ -277,17 +236,11 @@ table 1
 10.0.0.1 dev eth0 FAILED
 proxies 0
 end
-",
-    },
-    Worked {
-        shows: "send_at_the_last_reachable_timer",
-        senders: 1,
-        script: "\
+== send_at_the_last_reachable_timer: senders 1
 @0 neigh add 10.0.0.1 lladdr 00:11:22:33:44:55 nud reachable
 @30010 send 1 10.0.0.1 01
 @35010 neigh show
-",
-        report: "\
+-- report
 bucket 0 lines 7
 0 0 32 add 10.0.0.1 00:11:22:33:44:55 reachable -> done
 1 30000 - timer 10.0.0.1 -> -
@@ -310,17 +263,11 @@ table 1
 10.0.0.1 dev eth0 lladdr 00:11:22:33:44:55 PROBE
 proxies 0
 end
-",
-    },
-    Worked {
-        shows: "sweeps_of_an_empty_table",
-        senders: 1,
-        script: "\
+== sweeps_of_an_empty_table: senders 1
 @29999 neigh show
 @30000 neigh show
 @60001 neigh show
-",
-        report: "\
+-- report
 bucket 0 lines 5
 0 29999 32 show -> counted 0
 1 30000 - sweep -> -
@@ -337,17 +284,11 @@ fates sent 0 fast 0 dropped 0 waiting 0
 table 0
 proxies 0
 end
-",
-    },
-    Worked {
-        shows: "sweeps_spare_a_small_table",
-        senders: 1,
-        script: "\
+== sweeps_spare_a_small_table: senders 1
 @0 neigh add 10.0.0.1 lladdr 00:11:22:33:44:55 nud stale
 @0 send 1 10.0.0.3 01
 @200000 neigh show
-",
-        report: "\
+-- report
 bucket 0 lines 12
 0 0 32 add 10.0.0.1 00:11:22:33:44:55 stale -> done
 1 0 33 send 10.0.0.3 -> waits
@@ -380,6 +321,4 @@ table 2
 10.0.0.3 dev eth0 FAILED
 proxies 0
 end
-",
-    },
-];
+";

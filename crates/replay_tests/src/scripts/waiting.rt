@@ -1,23 +1,18 @@
-//! Scripts of packets that wait or are dropped.
-use crate::scripts::Worked;
+//! Scripts of packets that wait or are dropped. The table is cut as `scripts.rt` says.
 
-pub fn scripts() -> &'static [Worked] {
-    &SCRIPTS
+pub fn table() -> &'static str {
+    TABLE
 }
 
-const SCRIPTS: [Worked; 10] = [
-    Worked {
-        shows: "unresolved_after_three_probes",
-        senders: 1,
-        script: "\
+const TABLE: &str = "\
+== unresolved_after_three_probes: senders 1
 param unres_qlen_bytes 800
 @0 send 1 10.0.0.1 01
 @0 send 1 10.0.0.1 02
 @0 send 1 10.0.0.1 03
 @0 send 1 10.0.0.1 04
 @4000 neigh show
-",
-        report: "\
+-- report
 bucket 0 lines 8
 0 0 33 send 10.0.0.1 -> waits
   solicit ffffffffffff020000000002080600010800060400010200000000020a0000020000000000000a000001
@@ -52,15 +47,9 @@ table 1
 10.0.0.1 dev eth0 FAILED
 proxies 0
 end
-",
-    },
-    Worked {
-        shows: "packet_waits_at_the_end",
-        senders: 1,
-        script: "\
+== packet_waits_at_the_end: senders 1
 @0 send 1 10.0.0.1 01
-",
-        report: "\
+-- report
 bucket 0 lines 1
 0 0 33 send 10.0.0.1 -> waits
   solicit ffffffffffff020000000002080600010800060400010200000000020a0000020000000000000a000001
@@ -74,16 +63,10 @@ table 1
 10.0.0.1 dev eth0 INCOMPLETE
 proxies 0
 end
-",
-    },
-    Worked {
-        shows: "no_probes_allowed",
-        senders: 1,
-        script: "\
+== no_probes_allowed: senders 1
 param mcast_solicit 0
 @0 send 1 10.0.0.1 01
-",
-        report: "\
+-- report
 bucket 0 lines 1
 0 0 33 send 10.0.0.1 -> noprobes
   drop 33 noprobes
@@ -96,12 +79,7 @@ table 1
 10.0.0.1 dev eth0 FAILED
 proxies 0
 end
-",
-    },
-    Worked {
-        shows: "failed_entry_allows_no_probe_either",
-        senders: 1,
-        script: "\
+== failed_entry_allows_no_probe_either: senders 1
 param mcast_solicit 0
 param ucast_solicit 0
 @0 neigh add 10.0.0.1 lladdr 00:11:22:33:44:55 nud stale
@@ -109,8 +87,7 @@ param ucast_solicit 0
 @5000 send 1 10.0.0.1 02
 @5000 send 1 10.0.0.3 03
 @5001 send 1 10.0.0.3 04
-",
-        report: "\
+-- report
 bucket 0 lines 6
 0 0 32 add 10.0.0.1 00:11:22:33:44:55 stale -> done
 1 0 33 send 10.0.0.1 -> sent
@@ -136,19 +113,13 @@ table 2
 10.0.0.3 dev eth0 FAILED
 proxies 0
 end
-",
-    },
-    Worked {
-        shows: "one_group_probe_and_short_retrans_time",
-        senders: 1,
-        script: "\
+== one_group_probe_and_short_retrans_time: senders 1
 param mcast_solicit 1
 param retrans_time 10
 @0 send 1 10.0.0.1 01
 @9 send 1 10.0.0.1 02
 @10 send 1 10.0.0.1 03
-",
-        report: "\
+-- report
 bucket 0 lines 4
 0 0 33 send 10.0.0.1 -> waits
   solicit ffffffffffff020000000002080600010800060400010200000000020a0000020000000000000a000001
@@ -172,16 +143,10 @@ table 1
 10.0.0.1 dev eth0 INCOMPLETE
 proxies 0
 end
-",
-    },
-    Worked {
-        shows: "timer_before_a_send_at_its_due",
-        senders: 1,
-        script: "\
+== timer_before_a_send_at_its_due: senders 1
 @0 send 1 10.0.0.1 01
 @3000 send 1 10.0.0.1 02
-",
-        report: "\
+-- report
 bucket 0 lines 5
 0 0 33 send 10.0.0.1 -> waits
   solicit ffffffffffff020000000002080600010800060400010200000000020a0000020000000000000a000001
@@ -205,18 +170,12 @@ table 1
 10.0.0.1 dev eth0 INCOMPLETE
 proxies 0
 end
-",
-    },
-    Worked {
-        shows: "failed_entry_is_asked_for_again",
-        senders: 1,
-        script: "\
+== failed_entry_is_asked_for_again: senders 1
 @0 send 1 10.0.0.1 01
 @3500 confirm 10.0.0.1
 @3500 send 1 10.0.0.1 02
 @6500 neigh show
-",
-        report: "\
+-- report
 bucket 0 lines 10
 0 0 33 send 10.0.0.1 -> waits
   solicit ffffffffffff020000000002080600010800060400010200000000020a0000020000000000000a000001
@@ -251,19 +210,13 @@ table 1
 10.0.0.1 dev eth0 FAILED
 proxies 0
 end
-",
-    },
-    Worked {
-        shows: "room_for_one_keeps_the_newest",
-        senders: 1,
-        script: "\
+== room_for_one_keeps_the_newest: senders 1
 param unres_qlen_bytes 513
 @0 send 1 10.0.0.1 01
 @1 send 1 10.0.0.1 02
 @1 send 1 10.0.0.1 03
 @2 neigh change 10.0.0.1 lladdr 00:11:22:33:44:55 nud reachable
-",
-        report: "\
+-- report
 bucket 0 lines 4
 0 0 33 send 10.0.0.1 -> waits
   solicit ffffffffffff020000000002080600010800060400010200000000020a0000020000000000000a000001
@@ -288,12 +241,7 @@ table 1
 10.0.0.1 dev eth0 lladdr 00:11:22:33:44:55 REACHABLE
 proxies 0
 end
-",
-    },
-    Worked {
-        shows: "room_for_five_goes_out_in_order",
-        senders: 1,
-        script: "\
+== room_for_five_goes_out_in_order: senders 1
 param unres_qlen_bytes 1285
 @0 send 1 10.0.0.1 01
 @0 send 1 10.0.0.1 02
@@ -302,8 +250,7 @@ param unres_qlen_bytes 1285
 @0 send 1 10.0.0.1 05
 @0 send 1 10.0.0.1 06
 @1 neigh replace 10.0.0.1 lladdr 00:11:22:33:44:66 nud noarp
-",
-        report: "\
+-- report
 bucket 0 lines 7
 0 0 33 send 10.0.0.1 -> waits
   solicit ffffffffffff020000000002080600010800060400010200000000020a0000020000000000000a000001
@@ -340,18 +287,12 @@ table 1
 10.0.0.1 dev eth0 lladdr 00:11:22:33:44:66 NOARP
 proxies 0
 end
-",
-    },
-    Worked {
-        shows: "later_parameter_line_counts",
-        senders: 1,
-        script: "\
+== later_parameter_line_counts: senders 1
 param retrans_time 10
 param retrans_time 500
 @0 send 1 10.0.0.1 01
 @1500 neigh show
-",
-        report: "\
+-- report
 bucket 0 lines 5
 0 0 33 send 10.0.0.1 -> waits
   solicit ffffffffffff020000000002080600010800060400010200000000020a0000020000000000000a000001
@@ -374,6 +315,4 @@ table 1
 10.0.0.1 dev eth0 FAILED
 proxies 0
 end
-",
-    },
-];
+";
