@@ -18,6 +18,8 @@ mod replays;
 #[cfg(test)]
 mod reports;
 #[cfg(test)]
+mod run_parts;
+#[cfg(test)]
 mod script_language;
 #[cfg(test)]
 mod scripts;

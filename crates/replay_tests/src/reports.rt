@@ -1,10 +1,14 @@
+//! Reports of runs of one bucket.
 ghost use Rattle.std.specs.Prelude.{◌≡◌, [], IfOk};
 ghost use Rattle.nb_base.specs.Params.{InRange};
 
+use crate::run_parts::{
+    bare, bytes, full, host, mark, one, own, packet_to, placed, plan, push_packet, saw, slow,
+};
 use journal_check::is_evaluable;
 use nb_base::{
-    Bytes, Class, ControlItem, Host, HostLine, Items, Key, Line, Log, Mac, Mark, Mode, Moment,
-    Name, Nud, Op, OpId, Outcome, Params, Placed, Plan, Reply, SendItem, Why,
+    Bytes, Class, ControlItem, Host, HostLine, Items, Key, Line, Log, Mac, Mark, Mode, Moment, Nud,
+    Op, Outcome, Reply, SendItem, Why,
 };
 use neigh_report::{Fates, fates, text};
 use neigh_run::Run;
@@ -115,97 +119,31 @@ proxies 0
 end
 ";
 
-pub fn bytes(alloc: Global, bytes: &[u8]) -> Result<Bytes, AllocError> {
-    Ok(Items::from_vec(Vec::from_slice(alloc, bytes)?))
+/// A packet to the first address at 5 ms.
+fn push_first(alloc: Global, packets: &mut Items<SendItem>) -> Result<(), AllocError> {
+    push_packet(alloc, packets, 5, ONE, &[0x45, 0])
 }
 
-pub fn host() -> Option<Host> {
-    Some(Host {
-        dev: Name::read(b"eth0")?,
-        mac: Mac([0x02, 0, 0, 0, 0, 0x02]),
-        ip4: Some(0x0a00_0002),
-        ip6: None,
-    })
+fn one_packet(alloc: Global) -> Result<Items<SendItem>, AllocError> {
+    let mut packets = Items::new(alloc);
+    push_first(alloc, &mut packets)?;
+    Ok(packets)
 }
 
-pub fn own(at: u64, id: u64, op: Op) -> Line {
-    Line {
-        at: Moment(at),
-        id: Some(OpId(id)),
-        op,
-        seen: None,
-        full: None,
-    }
+fn four_packets(alloc: Global) -> Result<Items<SendItem>, AllocError> {
+    let mut packets = Items::new(alloc);
+    push_first(alloc, &mut packets)?;
+    push_first(alloc, &mut packets)?;
+    push_first(alloc, &mut packets)?;
+    push_first(alloc, &mut packets)?;
+    Ok(packets)
 }
 
-fn bare(at: u64, op: Op) -> Line {
-    Line {
-        at: Moment(at),
-        id: None,
-        op,
-        seen: None,
-        full: None,
-    }
-}
-
-/// The line, which saw so many entries.
-pub fn saw(line: Line, seen: u32) -> Line {
-    Line {
-        seen: Some(seen),
-        ..line
-    }
-}
-
-/// The line, which saw so many entries, all of which stand in its way.
-pub fn full(line: Line, seen: u32) -> Line {
-    Line {
-        seen: Some(seen),
-        full: Some(seen),
-        ..line
-    }
-}
-
-/// A packet of two bytes.
-pub fn packet_to(key: Key) -> Op {
-    Op::Send { key, len: 2 }
-}
-
-/// A packet of two bytes to a key at each of the moments.
-fn packets(
-    alloc: Global,
-    key: Key,
-    payload: [u8; 2],
-    moments: &[u64],
-) -> Result<Items<SendItem>, AllocError> {
-    let mut items = Items::new(alloc);
-    for at in moments {
-        items.push(SendItem {
-            at: Moment(*at),
-            key,
-            payload: bytes(alloc, &payload)?,
-        })?;
-    }
-    Ok(items)
-}
-
-pub fn plan(
-    alloc: Global,
-    host: Host,
-    packets: Items<SendItem>,
-    control: Items<ControlItem>,
-) -> Result<Plan, AllocError>
-    ensures { IfOk result (λ plan. InRange plan.params) }
-{
-    let mut senders = Items::new(alloc);
-    senders.push(packets)?;
-    Ok(Plan {
-        host,
-        params: Params::DEFAULT,
-        buckets: 1,
-        window: 50,
-        control,
-        senders,
-    })
+fn six_packets(alloc: Global) -> Result<Items<SendItem>, AllocError> {
+    let mut packets = Items::new(alloc);
+    push_packet(alloc, &mut packets, 5, SIX, &[0x60, 0])?;
+    push_packet(alloc, &mut packets, 2000, SIX, &[0x60, 0])?;
+    Ok(packets)
 }
 
 fn packet_lines(alloc: Global) -> Result<Items<Line>, AllocError> {
@@ -256,29 +194,34 @@ fn form_lines(alloc: Global) -> Result<Items<Line>, AllocError> {
     Ok(lines)
 }
 
-fn six_lines(alloc: Global) -> Result<Items<Line>, AllocError> {
-    let na = Op::Na {
+/// A packet that waits, and a second question.
+fn first_six(lines: &mut Items<Line>) -> Result<(), AllocError> {
+    lines.push(saw(own(5, 33, packet_to(SIX)), 0))?;
+    lines.push(bare(1005, Op::Timer { key: SIX }))
+}
+
+fn six_advert() -> Op {
+    Op::Na {
         key: SIX,
         mac: Some(A),
         router: true,
         solicited: false,
         overrides: true,
-    };
-    let mut lines = Items::new(alloc);
-    lines.push(saw(own(5, 33, packet_to(SIX)), 0))?;
-    lines.push(bare(1005, Op::Timer { key: SIX }))?;
-    lines.push(own(1500, 32, na))?;
-    lines.push(own(2000, 65, packet_to(SIX)))?;
-    lines.push(bare(7000, Op::Timer { key: SIX }))?;
-    Ok(lines)
+    }
 }
 
-fn placed(place: u32) -> Placed {
-    Placed {
-        bucket: 0,
-        place,
-        reply: Reply::Done,
-    }
+/// The answer, a packet that goes out, and a probe.
+fn last_six(lines: &mut Items<Line>) -> Result<(), AllocError> {
+    lines.push(own(1500, 32, six_advert()))?;
+    lines.push(own(2000, 65, packet_to(SIX)))?;
+    lines.push(bare(7000, Op::Timer { key: SIX }))
+}
+
+fn six_lines(alloc: Global) -> Result<Items<Line>, AllocError> {
+    let mut lines = Items::new(alloc);
+    first_six(&mut lines)?;
+    last_six(&mut lines)?;
+    Ok(lines)
 }
 
 fn packet_host_lines(alloc: Global) -> Result<Items<HostLine>, AllocError> {
@@ -304,8 +247,8 @@ fn heard_advert() -> HostLine {
     }
 }
 
-fn form_host_lines(alloc: Global) -> Result<Items<HostLine>, AllocError> {
-    let mut lines = Items::new(alloc);
+/// What the host heard.
+fn push_frames(alloc: Global, lines: &mut Items<HostLine>) -> Result<(), AllocError> {
     lines.push(HostLine::Frame {
         n: 1,
         at: Moment(0),
@@ -321,7 +264,11 @@ fn form_host_lines(alloc: Global) -> Result<Items<HostLine>, AllocError> {
         queued: Some(false),
         tx: None,
         op: None,
-    })?;
+    })
+}
+
+/// A proxy that is there already, and an answer for another.
+fn push_proxies(alloc: Global, lines: &mut Items<HostLine>) -> Result<(), AllocError> {
     lines.push(HostLine::Proxy {
         n: 3,
         at: Moment(6),
@@ -331,12 +278,14 @@ fn form_host_lines(alloc: Global) -> Result<Items<HostLine>, AllocError> {
     lines.push(HostLine::Answer {
         due: Moment(7),
         frame,
-    })?;
-    Ok(lines)
+    })
 }
 
-pub fn slow(why: Why, place: u32, reply: Reply) -> Outcome {
-    Outcome::Slow { why, place, reply }
+fn form_host_lines(alloc: Global) -> Result<Items<HostLine>, AllocError> {
+    let mut lines = Items::new(alloc);
+    push_frames(alloc, &mut lines)?;
+    push_proxies(alloc, &mut lines)?;
+    Ok(lines)
 }
 
 fn form_log(alloc: Global) -> Result<Log, AllocError> {
@@ -354,40 +303,33 @@ fn form_log(alloc: Global) -> Result<Log, AllocError> {
     Ok(log)
 }
 
+fn push_proxy(control: &mut Items<ControlItem>, key: Key, add: bool) -> Result<(), AllocError> {
+    control.push(ControlItem::Proxy {
+        at: Moment(0),
+        key,
+        add,
+    })
+}
+
 fn form_control(alloc: Global) -> Result<Items<ControlItem>, AllocError> {
     let mut control = Items::new(alloc);
-    for (key, add) in [(NINE, true), (LINK_LOCAL, true), (NINE, false)] {
-        control.push(ControlItem::Proxy {
-            at: Moment(0),
-            key,
-            add,
-        })?;
-    }
+    push_proxy(&mut control, NINE, true)?;
+    push_proxy(&mut control, LINK_LOCAL, true)?;
+    push_proxy(&mut control, NINE, false)?;
     Ok(control)
 }
 
-fn mark(alloc: Global, start: Option<Moment>, length: u32) -> Result<Mark, AllocError> {
-    let mut lengths = Items::new(alloc);
-    lengths.push(length)?;
-    Ok(Mark { start, lengths })
-}
-
-/// A list of one.
-pub fn one<T: Drop>(alloc: Global, item: T) -> Result<Items<T>, AllocError> {
-    let mut items = Items::new(alloc);
-    items.push(item)?;
-    Ok(items)
+fn form_marks(alloc: Global) -> Result<Items<Mark>, AllocError> {
+    let mut marks = Items::new(alloc);
+    marks.push(mark(alloc, Some(Moment(50)), 1)?)?;
+    marks.push(mark(alloc, None, 10)?)?;
+    Ok(marks)
 }
 
 fn packet_run(alloc: Global, host: Host) -> Result<Run, AllocError>
     ensures { IfOk result (λ run. InRange run.plan.params) }
 {
-    let plan = plan(
-        alloc,
-        host,
-        packets(alloc, ONE, [0x45, 0], &[5])?,
-        Items::new(alloc),
-    )?;
+    let plan = plan(alloc, host, one_packet(alloc)?, Items::new(alloc))?;
     let log = one(alloc, slow(Why::Inline, 1, Reply::Sent))?;
     Ok(Run {
         mode: Mode::Inline,
@@ -402,22 +344,14 @@ fn packet_run(alloc: Global, host: Host) -> Result<Run, AllocError>
 fn form_run(alloc: Global, host: Host) -> Result<Run, AllocError>
     ensures { IfOk result (λ run. InRange run.plan.params) }
 {
-    let plan = plan(
-        alloc,
-        host,
-        packets(alloc, ONE, [0x45, 0], &[5, 5, 5, 5])?,
-        form_control(alloc)?,
-    )?;
-    let mut marks = Items::new(alloc);
-    marks.push(mark(alloc, Some(Moment(50)), 1)?)?;
-    marks.push(mark(alloc, None, 10)?)?;
+    let plan = plan(alloc, host, four_packets(alloc)?, form_control(alloc)?)?;
     Ok(Run {
         mode: Mode::Threads,
         plan,
         journals: one(alloc, form_lines(alloc)?)?,
         host_lines: form_host_lines(alloc)?,
         logs: one(alloc, form_log(alloc)?)?,
-        marks,
+        marks: form_marks(alloc)?,
     })
 }
 
@@ -428,16 +362,24 @@ fn six_log(alloc: Global) -> Result<Log, AllocError> {
     Ok(log)
 }
 
-fn six_run(alloc: Global, host: Host) -> Result<Run, AllocError>
-    ensures { IfOk result (λ run. InRange run.plan.params) }
-{
-    let host = Host {
+/// The host with an IPv6 address alone.
+fn six_host(host: Host) -> Host {
+    Host {
         ip4: None,
         ip6: Some(0xfe80_0000_0000_0000_0000_0000_0000_0002),
         ..host
-    };
-    let packets = packets(alloc, SIX, [0x60, 0], &[5, 2000])?;
-    let plan = plan(alloc, host, packets, Items::new(alloc))?;
+    }
+}
+
+fn six_run(alloc: Global, host: Host) -> Result<Run, AllocError>
+    ensures { IfOk result (λ run. InRange run.plan.params) }
+{
+    let plan = plan(
+        alloc,
+        six_host(host),
+        six_packets(alloc)?,
+        Items::new(alloc),
+    )?;
     Ok(Run {
         mode: Mode::Inline,
         plan,

@@ -2,9 +2,9 @@
 ghost use Rattle.std.specs.Prelude.{IfOk};
 ghost use Rattle.nb_base.specs.Params.{InRange};
 
-use crate::reports::{bytes, full, host, one, own, packet_to, plan, saw, slow};
+use crate::run_parts::{full, host, one, own, packet_to, plan, push_packet, saw, slow};
 use journal_check::is_evaluable;
-use nb_base::{Bytes, Host, Items, Journals, Key, Log, Mode, Moment, Plan, Reply, SendItem, Why};
+use nb_base::{Bytes, Host, Items, Journals, Key, Log, Mode, Plan, Reply, SendItem, Why};
 use neigh_report::text;
 use neigh_run::Run;
 use std::alloc::{AllocError, Global};
@@ -57,15 +57,12 @@ end
 
 /// A packet to each of four addresses.
 fn packets(alloc: Global) -> Result<Items<SendItem>, AllocError> {
-    let mut items = Items::new(alloc);
-    for key in [ELEVEN, TWELVE, THIRTEEN, FOURTEEN] {
-        items.push(SendItem {
-            at: Moment(0),
-            key,
-            payload: bytes(alloc, &[1, 0])?,
-        })?;
-    }
-    Ok(items)
+    let mut packets = Items::new(alloc);
+    push_packet(alloc, &mut packets, 0, ELEVEN, &[1, 0])?;
+    push_packet(alloc, &mut packets, 0, TWELVE, &[1, 0])?;
+    push_packet(alloc, &mut packets, 0, THIRTEEN, &[1, 0])?;
+    push_packet(alloc, &mut packets, 0, FOURTEEN, &[1, 0])?;
+    Ok(packets)
 }
 
 fn journals(alloc: Global) -> Result<Journals, AllocError> {
