@@ -1,27 +1,24 @@
 -- What the evaluator's steps come to.
-use Rattle.std.proofs.Common.{◌≡◌, ℕ, ◌≤◌, Bool, true, false, is_some, List, [], ◌∷◌, length, Some, None, refl, sym, ap, ◌∙◌, arith}
+use Rattle.std.proofs.Common.{◌≡◌, ℕ, ◌≤◌, Bool, true, false, is_some, List, [], ◌∷◌, length, refl, arith}
 use Rattle.std.specs.Prelude.{◌&&◌}
 use Rattle.std.proofs.lemmas.Bool.{cond_both}
 use Rattle.nb_base.specs.declared.key.Key.{Key}
 use Rattle.nb_base.specs.declared.params.Params.{Params}
+use Rattle.nb_base.specs.declared.op.Op.{Op}
+use Rattle.nb_base.specs.declared.op.Op.TheVariants as op
 use Rattle.nb_base.specs.declared.line.Line.{Line}
-use Rattle.nud_machine.specs.declared.event.Event.{Event}
 use Rattle.nud_machine.specs.Asked.{greatest}
-use Rattle.nud_machine.specs.State.{State, Stepped}
-use Rattle.nb_journal.specs.Keys.{key_of}
-use Rattle.nb_journal.specs.Fold.{Effect, Brings, effect, seen_of, meet, change, state_of, acts_of, reply_after, reply_to_effect}
+use Rattle.nud_machine.specs.State.{State}
+use Rattle.nb_journal.specs.Keys.{is_own}
+use Rattle.nb_journal.specs.Steps.{IsTimersDue}
+use Rattle.nb_journal.specs.Fold.{seen_of}
 use Rattle.nb_journal.specs.Lawful.{pass_after, making, base_of, is_pass_due}
-use Rattle.nb_journal.proofs.Changes.{is_key-same, change-named}
 use Rattle.journal_check.specs.Evaluated.{are_collects, is_collect_of}
 
--- the reply to an operation that brings an event
-pub reply_brought : (p : Params) (past : List Line) (line : Line) (key : Key) (s : State) (e : Event) (done : Stepped) → key_of line.op ≡ Some key → line.full ≡ None → s ≡ state_of p past key
-    → Brings e ≡ effect p line s line.op → done ≡ meet p line s (Brings e) → Some (reply_after line.op done.acts) ≡ reply_to_effect line.op (acts_of p past line key) (effect p line (state_of p past key) line.op)
-reply_brought p past line key s e done names full is brings met =
-    ap (λ (d : Stepped). Some (reply_after line.op d.acts)) met
-    ∙ ap (λ (x : Effect). reply_to_effect line.op (meet p line s x).acts x) brings
-    ∙ ap (λ (d : Stepped). reply_to_effect line.op d.acts (effect p line s line.op)) (sym (change-named p line key key s names (is_key-same key) full))
-    ∙ ap (λ (t : State). reply_to_effect line.op (change p line key t).acts (effect p line t line.op)) is
+-- an own line is no timer's
+pub own_no_timer : (key : Key) (at : ℕ) (s : State) (o : Op) → is_own o ≡ true → IsTimersDue key at s o
+own_no_timer key at s (op.Timer named) e = cc
+own_no_timer key at s _ e = tt
 
 -- lines and keys of different number aren't collects of them
 pub are_collects-uneven : (at : ℕ) (lines : List Line) (keys : List Key) → (length lines ≡ length keys → ⊥) → are_collects at lines keys ≡ false

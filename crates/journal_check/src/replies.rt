@@ -1,17 +1,48 @@
 //! What an operation's line is answered.
-ghost use Rattle.std.specs.Prelude.{◌≡◌, ◌<◌, ◌^◌, IfOk, IsTrue, length, Some, None};
+ghost use Rattle.std.specs.Prelude.{◌≡◌, ◌<◌, ◌≤◌, ◌^◌, IfOk, IsTrue, length, None};
 ghost use Rattle.nb_base.specs.declared.line.Reply.TheVariants.{Counted};
 ghost use Rattle.nb_base.specs.Params.{InRange};
 ghost use Rattle.nb_journal.specs.Keys as naming;
 ghost use Rattle.nb_journal.specs.Fold as spec;
 ghost use Rattle.nb_journal.specs.Lawful.{EachLine};
-ghost use Rattle.nb_journal.specs.Steps.{IsStep, is_line_of_run};
+ghost use Rattle.nb_journal.specs.Steps.{IsKept, IsStep, effect_named, is_line_of_run, state_in};
 
 use crate::states::{loose_count, present_count, state_behind};
 use nb_base::{Key, Line, Op, Params, Reply};
-use nb_journal::{Effect, effect_of, is_own, key_of, reply_after};
-use nud_machine::Acts;
+use nb_journal::{Effect, Kept, effect_of, is_own, key_of, reply_after};
+use nud_machine::{Act, Acts};
 use std::alloc::{AllocError, Global};
+
+/// Nothing, the refusal, or what came of the event.
+fn reply_to_effect(op: &Op, acts: &[Act], effect: &Effect) -> Option<Reply>
+    requires { length acts.now ≤ 66 }
+    ensures { result ≡ spec.reply_to_effect op.now acts.now (effect_named effect.now) }
+{
+    match *effect {
+        Effect::Passes => None,
+        Effect::Refuses(reply) => Some(reply),
+        Effect::Brings(_) => Some(reply_after(op, acts)),
+    }
+}
+
+/// The reply to an operation that meets what is kept of a key.
+fn reply_of_kept(
+    params: &Params,
+    line: &Line,
+    key: &Key,
+    kept: &mut Kept,
+    acts: &mut Acts,
+) -> Option<Reply>
+    requires params { InRange params.now }
+    requires kept { IsKept params.now kept.old }
+    requires line { IsTrue (is_line_of_run line.now) }
+    requires own { IsTrue (naming.is_own line.now.op) }
+    ensures { result ≡ spec.reply_to_effect line.now.op (spec.change params.now line.now key.now (state_in kept.old)).acts (spec.effect params.now line.now (state_in kept.old) line.now.op) }
+{
+    let effect = effect_of(params, line, kept);
+    kept.go_on(params, line, key, acts);
+    reply_to_effect(&line.op, acts.as_slice(), &effect)
+}
 
 /// The reply to an operation that names a key and didn't find the table full.
 fn reply_for(
@@ -25,20 +56,11 @@ fn reply_for(
     requires steps { EachLine (IsStep params.now) past.now }
     requires line { IsTrue (is_line_of_run line.now) }
     requires own { IsTrue (naming.is_own line.now.op) }
-    requires names { naming.key_of line.now.op ≡ Some key.now }
-    requires not_full { line.now.full ≡ None }
     ensures { IfOk result (λ reply. reply ≡ spec.reply_for params.now past.now line.now key.now None) }
 {
     let mut kept = state_behind(alloc, params, past, key)?;
     let mut acts = Acts::new(alloc)?;
-    match effect_of(params, line, &kept) {
-        Effect::Passes => Ok(None),
-        Effect::Refuses(reply) => Ok(Some(reply)),
-        Effect::Brings(event) => {
-            kept.meet(params, line.at, &event, &mut acts);
-            Ok(Some(reply_after(&line.op, acts.as_slice())))
-        }
-    }
+    Ok(reply_of_kept(params, line, key, &mut kept, &mut acts))
 }
 
 /// The reply to an operation that names a key.
@@ -53,7 +75,6 @@ fn reply_of_key(
     requires steps { EachLine (IsStep params.now) past.now }
     requires line { IsTrue (is_line_of_run line.now) }
     requires own { IsTrue (naming.is_own line.now.op) }
-    requires names { naming.key_of line.now.op ≡ Some key.now }
     ensures { IfOk result (λ reply. reply ≡ spec.reply_for params.now past.now line.now key.now line.now.full) }
 {
     match line.full {
