@@ -31,6 +31,11 @@ pub fn count_of(table: &str) -> usize {
     table.lines().filter(|line| line.starts_with(HEAD)).count()
 }
 
+/// How many rows a table has that has a row a line.
+pub fn rows_of(table: &str) -> usize {
+    table.lines().count()
+}
+
 /// The case whose text this is, from behind its head's beginning on.
 pub fn case_of(text: &'static str) -> Option<Case> {
     let (head, body) = text.split_once('\n')?;

@@ -2,6 +2,7 @@
 //!
 //! A table is one text with a row a line: what the words ask for, a colon and a space, and the words, of which each but the last ends at a
 //! bar. Where the last word is empty, it ends at a bar too.
+use crate::cases::rows_of;
 use nb_base::Mode;
 use neigh_words::{Command, Settings, SettingsFail, settings};
 use std::alloc::{AllocError, Global};
@@ -210,35 +211,35 @@ fn first_other(
 
 #[test]
 fn words_of_the_command_name_their_script(rt: HostRuntime) -> Result<(), Fail> {
-    assert_eq!(rt; SCRIPTS.lines().count(), 9);
+    assert_eq!(rt; rows_of(SCRIPTS), 9);
     assert_eq!(rt; first_other(rt.alloc(), Asked::Script, SCRIPTS)?, None);
     Ok(())
 }
 
 #[test]
 fn words_of_the_command_name_their_capture(rt: HostRuntime) -> Result<(), Fail> {
-    assert_eq!(rt; CAPTURES.lines().count(), 3);
+    assert_eq!(rt; rows_of(CAPTURES), 3);
     assert_eq!(rt; first_other(rt.alloc(), Asked::Capture, CAPTURES)?, None);
     Ok(())
 }
 
 #[test]
 fn words_of_the_command_give_their_window(rt: HostRuntime) -> Result<(), Fail> {
-    assert_eq!(rt; WINDOWS.lines().count(), 8);
+    assert_eq!(rt; rows_of(WINDOWS), 8);
     assert_eq!(rt; first_other(rt.alloc(), Asked::Window, WINDOWS)?, None);
     Ok(())
 }
 
 #[test]
 fn words_of_the_command_give_their_buckets(rt: HostRuntime) -> Result<(), Fail> {
-    assert_eq!(rt; BUCKETS.lines().count(), 4);
+    assert_eq!(rt; rows_of(BUCKETS), 4);
     assert_eq!(rt; first_other(rt.alloc(), Asked::Buckets, BUCKETS)?, None);
     Ok(())
 }
 
 #[test]
 fn words_of_the_command_give_their_number(rt: HostRuntime) -> Result<(), Fail> {
-    assert_eq!(rt; NUMBERS.lines().count(), 5);
+    assert_eq!(rt; rows_of(NUMBERS), 5);
     assert_eq!(rt; first_other(rt.alloc(), Asked::Number, NUMBERS)?, None);
     Ok(())
 }
@@ -261,7 +262,7 @@ fn first_taken(alloc: Global, rows: &'static str) -> Result<Option<&'static str>
 
 #[test]
 fn other_words_are_outside_the_command(rt: HostRuntime) -> Result<(), Fail> {
-    assert_eq!(rt; OUTSIDE.lines().count(), 56);
+    assert_eq!(rt; rows_of(OUTSIDE), 56);
     assert_eq!(rt; first_taken(rt.alloc(), OUTSIDE)?, None);
     Ok(())
 }

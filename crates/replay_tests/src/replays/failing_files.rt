@@ -1,6 +1,6 @@
 //! Files that can't be read, reports that can't be written, and a capture that is too long.
 use crate::captures::capture_of;
-use crate::cases::{Call, call_of};
+use crate::cases::{Call, call_of, rows_of};
 use crate::command::{
     BESIDE, Ending, HOST, TEN_BYTES, ending_of, ends, ends_into, script_and_capture,
 };
@@ -52,7 +52,7 @@ fn first_other_end(
 
 #[test]
 fn failing_files_and_other_names(rt: HostRuntime) -> Result<(), Fail> {
-    assert_eq!(rt; FAILING.lines().count(), 7);
+    assert_eq!(rt; rows_of(FAILING), 7);
     assert_eq!(rt; first_other_end(&rt, rt.alloc(), FAILING)?, None);
     Ok(())
 }

@@ -1,4 +1,5 @@
 //! Words that ask for a generated run beside something else. Whole runs are those of the program `generated_runs`.
+use crate::cases::rows_of;
 use crate::command::{Ending, HOST, USAGE, ends, joined, script_alone};
 use std::alloc::{AllocError, Global};
 use std::test::Fail;
@@ -39,7 +40,7 @@ fn first_taken(
 
 #[test]
 fn generate_stands_alone(rt: HostRuntime) -> Result<(), Fail> {
-    assert_eq!(rt; REFUSED_WORDS.lines().count(), 4);
+    assert_eq!(rt; rows_of(REFUSED_WORDS), 4);
     assert_eq!(rt; first_taken(&rt, rt.alloc(), REFUSED_WORDS)?, None);
     Ok(())
 }
