@@ -1,4 +1,5 @@
-//! Replays of captures beside scripts, and of scripts over several buckets: whole reports, the host's line for single frames, files that are refused, and calls that fail.
+//! Replays of captures beside scripts, and of scripts over several buckets: whole reports, the host's line for single frames, files that
+//! are refused, and calls that fail.
 //!
 //! Each table of whole reports is cut as `cases.rt` says, and what stands for the call is its words.
 mod bucket_thresholds;
