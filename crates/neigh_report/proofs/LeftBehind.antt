@@ -3,7 +3,7 @@ use Rattle.std.proofs.Common.{◌≡◌, ℕ, zero, suc, Bool, true, false, ◌+
 use Rattle.nb_base.specs.declared.line.Line.{Line}
 use Rattle.nb_base.specs.declared.params.Params.{Params}
 use Rattle.nud_machine.specs.declared.act.Act.{Act}
-use Rattle.nb_journal.specs.Accounts.{acts_at}
+use Rattle.nb_journal.specs.Accounts.{acts_at, waiting_behind}
 use Rattle.std.specs.Prelude.{map, filter, Result, Ok, Err, OnOk, is_ok, if◌then◌else◌, codes, decimal}
 use Rattle.std.specs.List.{flat_map, AllByRecursion}
 use Rattle.std.proofs.lemmas.List.{length-map, length-append, flat_map_more}
@@ -20,7 +20,7 @@ use Rattle.nud_machine.specs.Laws.{ids_of}
 use Rattle.nb_journal.specs.Steps.{state_in, IsStep}
 use Rattle.nb_journal.specs.Fold.{state_of, known_keys, present_count}
 use Rattle.text_codes.specs.Lines.{Words, line_text, text_of}
-use Rattle.neigh_run.specs.Report.{all_below, line_words, journal_lines, bucket_lines, journal_acts, counted}
+use Rattle.neigh_run.specs.Report.{all_below, line_words, journal_lines, bucket_lines, journal_acts, waiting_after, counted}
 use Rattle.neigh_run.specs.Entries.{entry_if_present, entries_after, entry_words}
 use Rattle.journal_fold.specs.Taken.{Taken}
 use Rattle.nb_journal.specs.declared.kept.Kept.{Kept}
@@ -79,6 +79,14 @@ buckets_more plan xs x n report written more is e one =
 -- one element more of a map to lists
 pub flat_more : {X A : Type 0} (f : X → List A) (xs : List X) (x : X) (so_far more : List A) → so_far ≡ flat_map f xs → more ≡ so_far ++ f x → more ≡ flat_map f (xs ++ x ∷ [])
 flat_more f xs x so_far more e one = rw (one, e) (flat_map_more f [] xs x)
+
+-- what stands behind a journal, told of the fold over it
+pub entries_put : (host : Host) (p : Params) (lines : List Line) (fold : Taken) (old new : List Taken) → fold.params ≡ p → fold.lines ≡ lines → entries host new ≡ entries host old ++ entries_after host fold.params fold.lines
+    → entries host new ≡ entries host old ++ entries_after host p lines
+entries_put host p lines fold old new e is put = put ∙ ap (λ (x : Params × List Line). entries host old ++ entries_after host x.0 x.1) (λ i. (e i, is i))
+
+pub waits_put : (plan : Plan) (lines : List Line) (fold : Taken) (old new : List Taken) → fold.params ≡ plan.params → fold.lines ≡ lines → waits new ≡ waits old ++ waits_behind fold → waits new ≡ waits old ++ waiting_after plan lines
+waits_put plan lines fold old new e is put = put ∙ ap (λ (x : Params × List Line). waits old ++ waiting_behind x.0 x.1) (λ i. (e i, is i))
 
 -- as many entries are present as rows are listed
 present_rows : (host : Host) (f : Key → State) (keys : List Key) → length (filter (λ (key : Key). (f key).entry.present) keys) ≡ length (flat_map (λ (key : Key). entry_if_present host key (f key).entry) keys)

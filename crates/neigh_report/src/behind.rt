@@ -2,6 +2,7 @@
 ghost use Rattle.std.specs.Prelude.{◌≡◌, ◌<◌, ◌^◌, ◌++◌, ◌∷◌, [], length, string_bytes, IfOk, OnOk};
 ghost use Rattle.std.specs.List.{flat_map, AllByRecursion};
 ghost use Rattle.text_codes.specs.Lines.{text_of};
+ghost use Rattle.nb_base.specs.declared.host.Host.{Host};
 ghost use Rattle.nb_base.specs.Params.{InRange};
 ghost use Rattle.nb_journal.specs.Lawful.{EachLine};
 ghost use Rattle.nb_journal.specs.Steps.{IsShort, IsStep, IsStepped};
@@ -23,6 +24,31 @@ pub struct Behind {
     pub acts: Vec<Act>,
 }
 
+/// Writes the lines of a journal, each with its reply and what stands below it. The fold, which took no lines yet, takes them.
+fn write_lines(
+    alloc: Global,
+    report: &mut String,
+    plan: &Plan,
+    lines: &[Line],
+    fold: &mut Fold,
+    room: &mut Acts,
+    acts: &mut Vec<Act>,
+) -> Result<(), AllocError>
+    requires none { fold.old.lines ≡ [] }
+    requires params { fold.old.params ≡ plan.now.params }
+    requires few { length lines.now < 2 ^ 32 }
+    requires steps { EachLine (IsStep plan.now.params) lines.now }
+    ensures written { OnOk result (string_bytes report.new ≡ string_bytes report.old ++ text_of (report_of.journal_lines plan.now [] lines.now)) }
+    ensures lines { OnOk result (fold.new.lines ≡ lines.now) }
+    ensures params { OnOk result (fold.new.params ≡ plan.now.params) }
+    ensures acts { OnOk result (acts.new.items ≡ acts.old.items ++ report_of.journal_acts plan.now [] lines.now) }
+{
+    for line in lines {
+        write_and_take(alloc, report, plan, fold, line, room, acts)?;
+    }
+    Ok(())
+}
+
 /// Writes the lines of a journal, each with its reply and what stands below it.
 pub fn write_journal(
     alloc: Global,
@@ -41,10 +67,18 @@ pub fn write_journal(
 {
     let mut fold = Fold::new(alloc, &plan.params)?;
     let mut room = Acts::new(alloc)?;
-    for line in lines {
-        write_and_take(alloc, report, plan, &mut fold, line, &mut room, acts)?;
-    }
+    write_lines(alloc, report, plan, lines, &mut fold, &mut room, acts)?;
     Ok(fold)
+}
+
+/// Puts the fold over a journal behind the others.
+pub fn put_fold(folds: &mut Vec<Fold>, fold: Fold) -> Result<(), AllocError>
+    ensures entries { (host : Host) → OnOk result (left.entries host folds.new.items ≡ left.entries host folds.old.items ++ entries_after host fold.params fold.lines) }
+    ensures waits { OnOk result (left.waits folds.new.items ≡ left.waits folds.old.items ++ left.waits_behind fold) }
+    ensures few { AllByRecursion left.IsShortFold folds.old.items → left.IsShortFold fold → OnOk result (AllByRecursion left.IsShortFold folds.new.items) }
+{
+    folds.push(fold)?;
+    Ok(())
 }
 
 /// Writes a bucket's journal. Its fold and its acts come behind the others.
@@ -67,7 +101,7 @@ fn write_one_bucket(
 {
     write_bucket(report, number, lines.len())?;
     let fold = write_journal(alloc, report, plan, lines, &mut behind.acts)?;
-    behind.folds.push(fold)?;
+    put_fold(&mut behind.folds, fold)?;
     Ok(())
 }
 

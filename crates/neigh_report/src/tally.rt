@@ -11,7 +11,7 @@ ghost use Rattle.neigh_run.specs.Entries.{entries_after};
 ghost use Rattle.neigh_run.specs.Report as report_of;
 ghost use Rattle.neigh_report.specs.Left as left;
 
-use crate::behind::Behind;
+use crate::behind::{Behind, put_fold};
 use crate::counts::{Fates, count_all_fast, count_dropped, count_sent, count_waiting};
 use crate::head::write_fates;
 use journal_fold::Fold;
@@ -19,6 +19,29 @@ use nb_base::{Journal, Line, Plan};
 use neigh_run::Run;
 use nud_machine::{Act, Acts};
 use std::alloc::{AllocError, Global};
+
+/// The fold, which took no lines yet, takes a journal's lines. Their acts come behind the others.
+fn take_lines(
+    alloc: Global,
+    plan: &Plan,
+    lines: &[Line],
+    fold: &mut Fold,
+    room: &mut Acts,
+    acts: &mut Vec<Act>,
+) -> Result<(), AllocError>
+    requires none { fold.old.lines ≡ [] }
+    requires params { fold.old.params ≡ plan.now.params }
+    requires few { IsShort lines.now }
+    requires steps { IsStepped plan.now.params lines.now }
+    ensures lines { OnOk result (fold.new.lines ≡ lines.now) }
+    ensures params { OnOk result (fold.new.params ≡ plan.now.params) }
+    ensures acts { OnOk result (acts.new.items ≡ acts.old.items ++ report_of.journal_acts plan.now [] lines.now) }
+{
+    for line in lines {
+        fold.append_with_acts(alloc, line, room, acts)?;
+    }
+    Ok(())
+}
 
 /// Takes a journal's lines. Their acts come behind the others.
 fn take_journal(
@@ -36,9 +59,7 @@ fn take_journal(
 {
     let mut fold = Fold::new(alloc, &plan.params)?;
     let mut room = Acts::new(alloc)?;
-    for line in lines {
-        fold.append_with_acts(alloc, line, &mut room, acts)?;
-    }
+    take_lines(alloc, plan, lines, &mut fold, &mut room, acts)?;
     Ok(fold)
 }
 
@@ -58,7 +79,7 @@ fn take_one_bucket(
     ensures few { AllByRecursion left.IsShortFold behind.old.folds.items → OnOk result (AllByRecursion left.IsShortFold behind.new.folds.items) }
 {
     let fold = take_journal(alloc, plan, lines, &mut behind.acts)?;
-    behind.folds.push(fold)?;
+    put_fold(&mut behind.folds, fold)?;
     Ok(())
 }
 

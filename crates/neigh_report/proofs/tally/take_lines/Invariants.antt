@@ -1,6 +1,6 @@
 use Rattle.std.proofs.Common.{◌≡◌, ◌++◌, [], take}
 use Rattle.neigh_run.specs.Report.{journal_acts}
-use Rattle.neigh_report.proofs.tally.take_journal.Given as goal
+use Rattle.neigh_report.proofs.tally.take_lines.Given as goal
 
 abbrev pub invariant-loop-line : goal.invariant-loop-line
 invariant-loop-line l = record {

@@ -7,7 +7,7 @@ use Rattle.nb_journal.specs.Steps.{IsStep}
 use Rattle.nb_journal.proofs.Takes.{taken, each-take_at}
 use Rattle.neigh_run.specs.Report.{journal_acts}
 use Rattle.neigh_report.proofs.LeftBehind.{acts_more, step_there}
-use Rattle.neigh_report.proofs.tally.take_journal.Goals as goal
+use Rattle.neigh_report.proofs.tally.take_lines.Goals as goal
 
 pub append_with_acts-requires-clause-step : goal.append_with_acts-requires-clause-step
 append_with_acts-requires-clause-step c =

@@ -2,7 +2,7 @@ use Rattle.std.proofs.Common.{◌≡◌, ◌++◌, [], take}
 use Rattle.std.specs.Prelude.{string_bytes}
 use Rattle.text_codes.specs.Lines.{text_of}
 use Rattle.neigh_run.specs.Report.{journal_lines, journal_acts}
-use Rattle.neigh_report.proofs.behind.write_journal.Given as goal
+use Rattle.neigh_report.proofs.behind.write_lines.Given as goal
 
 abbrev pub invariant-loop-line : goal.invariant-loop-line
 invariant-loop-line l = record {

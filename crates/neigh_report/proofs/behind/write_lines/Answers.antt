@@ -8,7 +8,7 @@ use Rattle.nb_journal.proofs.Takes.{taken, each-take_at}
 use Rattle.text_codes.specs.Lines.{text_of}
 use Rattle.neigh_run.specs.Report.{journal_acts, line_words, all_below}
 use Rattle.neigh_report.proofs.LeftBehind.{acts_more, written_more}
-use Rattle.neigh_report.proofs.behind.write_journal.Goals as goal
+use Rattle.neigh_report.proofs.behind.write_lines.Goals as goal
 
 pub write_and_take-requires-clause-step : goal.write_and_take-requires-clause-step
 write_and_take-requires-clause-step c =
